@@ -1,0 +1,3 @@
+mod DigitLists
+mod IntegerTexts
+mod ScoreTexts

@@ -1,0 +1,4 @@
+pub mod Digits
+pub mod Map
+pub mod Number
+pub mod Score

@@ -1,0 +1,23 @@
+use Rattle.std.proofs.Common.{◌≡◌, ◌∙◌, ◌≤◌, ℕ, List, sym, arith}
+use Rattle.std.proofs.lemmas.Result.{err_from_is_err_and}
+use Rattle.kv_server.specs.Store.{state_of}
+use Rattle.kv_server.proofs.Run.{attend_broken, attend_flushed, attend_stuck}
+use Rattle.kv_server.proofs.top.attend.Goals as goal
+
+pub returns-then-has_no_sink-clause-served : goal.returns-then-has_no_sink-clause-served
+returns-then-has_no_sink-clause-served g c =
+    attend_broken (state_of c.args.store.now) (state_of c.serve-served.new.store) (g.C.Clock.readings c.args.clock.now) (g.C.Clock.readings c.serve-served.new.clock) (g.K.Sink.held c.args.sink.now) (g.K.Sink.held c.serve-served.new.sink)
+    c.args.outlet.now.bytes c.serve-served.new.outlet.bytes (g.K.Sink.faults c.args.sink.now) (g.K.Sink.faults c.serve-served.new.sink) c.args.reader.now c.serve-served.new.reader c.serve-served.result (sym c.has_no_sink.ensures ∙ c.if-has_no_sink.true) c.serve-served.ensures.served
+
+pub returns-in_err-flush-clause-served : goal.returns-in_err-flush-clause-served
+returns-in_err-flush-clause-served g c =
+    let p = err_from_is_err_and c.from_residual.result c.from_residual.ensures.1 in
+    rw (p.1, p.2) (attend_stuck (state_of c.args.store.now) (state_of c.serve-served.new.store) (g.C.Clock.readings c.args.clock.now) (g.C.Clock.readings c.serve-served.new.clock) (g.K.Sink.held c.args.sink.now) (g.K.Sink.held c.serve-served.new.sink) (g.K.Sink.held c.flush.new.sink)
+    c.args.outlet.now.bytes c.serve-served.new.outlet.bytes (g.K.Sink.faults c.args.sink.now) (g.K.Sink.faults c.serve-served.new.sink) (g.K.Sink.faults c.flush.new.sink) c.args.reader.now c.serve-served.new.reader c.serve-served.result (sym c.has_no_sink.ensures ∙ c.if-has_no_sink.false)
+    c.serve-served.ensures.served c.in_err-flush.ensures.written.front c.serve-served.ensures.later c.in_err-flush.ensures.written.failed)
+
+pub returns-clause-served : goal.returns-clause-served
+returns-clause-served g c =
+    attend_flushed (state_of c.args.store.now) (state_of c.serve-served.new.store) (g.C.Clock.readings c.args.clock.now) (g.C.Clock.readings c.serve-served.new.clock) (g.K.Sink.held c.args.sink.now) (g.K.Sink.held c.serve-served.new.sink) (g.K.Sink.held c.flush.new.sink)
+    c.args.outlet.now.bytes c.serve-served.new.outlet.bytes (g.K.Sink.faults c.args.sink.now) (g.K.Sink.faults c.serve-served.new.sink) (g.K.Sink.faults c.flush.new.sink) c.args.reader.now c.serve-served.new.reader c.serve-served.result (sym c.has_no_sink.ensures ∙ c.if-has_no_sink.false)
+    c.serve-served.ensures.served c.in_ok-flush.ensures.written.all

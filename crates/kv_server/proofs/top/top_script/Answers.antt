@@ -1,0 +1,10 @@
+use Rattle.kv_server.proofs.Output.{closed_output, broken_output}
+use Rattle.kv_server.proofs.top.top_script.Goals as goal
+
+pub returns-clause-output : goal.returns-clause-output
+returns-clause-output g c =
+    closed_output c.run.result c.status_of.result (g.C.Clock.readings c.args.clock.now) (g.C.Clock.readings c.run.new.clock) (g.S.Source.left c.args.source.now) (g.S.Source.left c.run.new.source) (g.K.Sink.held c.args.sink.now) (g.K.Sink.held c.run.new.sink) _ _ c.status_of.ensures c.run.ensures.session
+
+pub returns-clause-front : goal.returns-clause-front
+returns-clause-front g c =
+    broken_output c.run.result c.status_of.result (g.C.Clock.readings c.args.clock.now) (g.C.Clock.readings c.run.new.clock) (g.S.Source.left c.args.source.now) (g.S.Source.left c.run.new.source) (g.K.Sink.held c.args.sink.now) (g.K.Sink.held c.run.new.sink) _ _ c.status_of.ensures c.run.ensures.session

@@ -1,0 +1,5 @@
+mod Calls
+mod Runs
+mod EdgeRuns
+mod TouchedRuns
+mod RenderRuns

@@ -1,0 +1,230 @@
+-- What is read of a text is what a client writes.
+use Rattle.std.proofs.Common.{◌≡◌, ℕ, zero, suc, ◌+◌, ◌-◌, ◌*◌, ◌/◌, ◌%◌, ◌^◌, ◌≤◌, ◌<◌, ◌⊎◌, Bool, true, false, cond, not, List, [], ◌∷◌, ◌++◌, length, take, drop, Some, None, Result, Ok, Err, refl, sym, ap, subst, ◌∙◌, append_assoc, arith, inl, inr}
+use Rattle.std.specs.Prelude.{◌==◌, nat_lt, All, sum_by, decimal}
+use Rattle.std.specs.List.{flat_map}
+use Rattle.std.specs.Char.{is_ascii_digit}
+use Rattle.std.proofs.lemmas.Grind.{common_steps}
+use Rattle.std.proofs.lemmas.Fmt.{decimal_digit, decimal_step}
+use Rattle.std.proofs.lemmas.List.{take-append-drop, length-take}
+use Rattle.std.proofs.lemmas.List.Elements.{All-nil, All-cons}
+use Rattle.std.proofs.lemmas.List.Sums.{sum_by-cons}
+use Rattle.resp_wire.specs.declared.stop.FaultKind.TheVariants.{BadMark, BadLength, TooLong}
+use Rattle.resp_wire.specs.declared.stop.Stop.{Stop}
+use Rattle.resp_wire.specs.declared.stop.Stop.TheVariants.{More, Bad}
+use Rattle.resp_wire.specs.declared.parts.Limit.{Limit}
+use Rattle.resp_wire.specs.declared.parts.Limit.TheVariants.{Words, Bytes}
+use Rattle.resp_wire.specs.Grammar.{◌>>=◌, star, dollar, carriage_return, line_feed, mark, line_end, exceeds, with_digit, text_end, length_from, length_text, body, bulk, bulks, minus_one, count, header, request}
+use Rattle.resp_wire.specs.Encoding.{small, length_line, word_text, null_text, cost, OnlyTextsAreRead}
+
+-- ---- what a part that was read goes back to
+
+if_ok : {X : Type 0} (b : Bool) (r s : Result X Stop) (x : X) → cond b r s ≡ Ok x → ((b ≡ true) × (r ≡ Ok x)) ⊎ ((b ≡ false) × (s ≡ Ok x))
+if_ok true r s x e = inl (refl, e)
+if_ok false r s x e = inr (refl, e)
+
+-- the first of two is a fault
+if_later : {X : Type 0} (b : Bool) (stop : Stop) (s : Result X Stop) (x : X) → cond b (Err stop) s ≡ Ok x → (b ≡ false) × (s ≡ Ok x)
+if_later true stop s x e = absurd cc
+if_later false stop s x e = (refl, e)
+
+if_first : {X : Type 0} (b : Bool) (r : Result X Stop) (stop : Stop) (x : X) → cond b r (Err stop) ≡ Ok x → (b ≡ true) × (r ≡ Ok x)
+if_first true r stop x e = (refl, e)
+if_first false r stop x e = absurd cc
+
+then_ok : {X Y : Type 0} (r : Result X Stop) (f : X → Result Y Stop) (y : Y) → (r >>= f) ≡ Ok y → (x : X) × ((r ≡ Ok x) × (f x ≡ Ok y))
+then_ok (Ok x) f y e = (x, (refl, e))
+then_ok (Err stop) f y e = absurd cc
+
+same_ok : {X : Type 0} (x y : X) → ◌≡◌ {A = Result X Stop} (Ok x) (Ok y) → x ≡ y
+same_ok x y e = cc
+
+-- ---- bytes
+
+mark_written : (byte : ℕ) (bytes rest : List ℕ) → mark byte bytes ≡ Ok rest → bytes ≡ byte ∷ rest
+unfolding mark
+mark_written byte [] rest e = absurd cc
+mark_written byte (c ∷ bytes) rest e =
+    let found = if_first (c == byte) (Ok bytes) (Bad BadMark (length bytes + 1)) rest e in
+    let is : c ≡ byte = (let t = found.0 in grind (arith, common_steps)) in
+    let behind : bytes ≡ rest = (let t = found.1 in cc) in
+    cc
+
+line_end_written : (bytes rest : List ℕ) → line_end bytes ≡ Ok rest → bytes ≡ carriage_return ∷ line_feed ∷ rest
+unfolding line_end
+line_end_written bytes rest e =
+    let found = then_ok (mark carriage_return bytes) (mark line_feed) rest e in
+    mark_written carriage_return bytes found.0 found.1.0 ∙ ap (λ (behind : List ℕ). carriage_return ∷ behind) (mark_written line_feed found.0 rest found.1.1)
+
+-- ---- lengths
+
+text_end_written : (left n : ℕ) (bytes : List ℕ) (m : ℕ) (rest : List ℕ) → text_end left (Some n) bytes ≡ Ok (m, rest) → (n ≡ m) × (bytes ≡ carriage_return ∷ line_feed ∷ rest)
+unfolding text_end
+text_end_written left n [] m rest e = absurd cc
+text_end_written left n (c ∷ bytes) m rest e =
+    let found = if_first (c == carriage_return) (mark line_feed bytes >>= λ behind. Ok (n, behind)) (Bad BadLength left) (m, rest) e in
+    let read = then_ok (mark line_feed bytes) (λ behind. Ok (n, behind)) (m, rest) found.1 in
+    let same : (n, read.0) ≡ (m, rest) = same_ok (n, read.0) (m, rest) read.1.1 in
+    let is : c ≡ carriage_return = (let t = found.0 in grind (arith, common_steps)) in (
+      ap (λ (x : ℕ × List ℕ). x.0) same,
+      ap (λ (b : ℕ). b ∷ bytes) is ∙ ap (λ (behind : List ℕ). carriage_return ∷ behind) (mark_written line_feed bytes read.0 read.1.0) ∙ ap (λ (x : ℕ × List ℕ). carriage_return ∷ line_feed ∷ x.1) same,
+    )
+
+digit_bounds : (c : ℕ) → not (is_ascii_digit c) ≡ false → (48 ≤ c) × (c < 58)
+digit_bounds c h = (grind (arith, common_steps), grind (arith, common_steps))
+
+-- a further digit
+digit_added : (n c m : ℕ) → m ≡ n * 10 + (c - 48) → 0 < n → 48 ≤ c → c < 58 → m < 2 ^ 64 → decimal m ≡ decimal n ++ c ∷ []
+digit_added n c m e some low high small =
+    let tens : m / 10 ≡ n = omega arith in
+    let ones : 48 + m % 10 ≡ c = omega arith in
+    decimal_step m (omega arith) small ∙ ap (λ (k : ℕ). decimal k ++ (48 + m % 10) ∷ []) tens ∙ ap (λ (d : ℕ). decimal n ++ d ∷ []) ones
+
+first_digit : (c m : ℕ) → m ≡ 0 * 10 + (c - 48) → 48 ≤ c → c < 58 → decimal m ≡ c ∷ []
+first_digit c m e low high = let k : 48 + m ≡ c = omega arith in decimal_digit m (omega arith) ∙ ap (λ (d : ℕ). d ∷ []) k
+
+number_written : (limit : Limit) (left n : ℕ) (bytes : List ℕ) (m : ℕ) (rest : List ℕ) → exceeds limit n ≡ false → length_from limit left (Some n) bytes ≡ Ok (m, rest)
+    → (exceeds limit m ≡ false) × (decimal n ++ bytes ≡ decimal m ++ carriage_return ∷ line_feed ∷ rest)
+unfolding length_from
+number_written limit left n [] m rest h e = absurd cc
+number_written limit left n (c ∷ bytes) m rest h e = elim (if_ok (not (is_ascii_digit c)) (text_end left (Some n) (c ∷ bytes)) _ (m, rest) e) [
+  | inl ended ↦
+      let found = text_end_written left n (c ∷ bytes) m rest ended.1 in
+      (ap (exceeds limit) (sym found.0) ∙ h, ap (λ (k : ℕ). decimal k ++ c ∷ bytes) found.0 ∙ ap (λ (b : List ℕ). decimal m ++ b) found.1)
+  | inr digit ↦
+      let bounds = digit_bounds c digit.0 in
+      let some = if_later (n == 0) (Bad BadLength left) _ (m, rest) digit.1 in
+      let below = if_later (exceeds limit (with_digit (Some n) c)) (Bad TooLong left) _ (m, rest) some.1 in
+      let on = number_written limit left (with_digit (Some n) c) bytes m rest below.0 below.1 in
+      let pos : 0 < n = (let t = some.0 in grind (arith, common_steps)) in
+      let added = digit_added n c (with_digit (Some n) c) refl pos bounds.0 bounds.1 (small limit (with_digit (Some n) c) below.0) in
+      (on.0, sym (append_assoc (decimal n) (c ∷ []) bytes) ∙ ap (λ (d : List ℕ). d ++ bytes) (sym added) ∙ on.1)
+]
+
+length_text_written : (limit : Limit) (bytes : List ℕ) (n : ℕ) (rest : List ℕ) → length_text limit bytes ≡ Ok (n, rest) → (exceeds limit n ≡ false) × (bytes ≡ decimal n ++ carriage_return ∷ line_feed ∷ rest)
+unfolding length_text length_from text_end
+length_text_written limit [] n rest e = absurd cc
+length_text_written limit (c ∷ bytes) n rest e =
+    let left : ℕ = length (c ∷ bytes) + 1 in
+    let digit = if_later (not (is_ascii_digit c)) (Bad BadLength left) _ (n, rest) e in
+    let bounds = digit_bounds c digit.0 in
+    let below = if_later (exceeds limit (with_digit None c)) (Bad TooLong left) _ (n, rest) digit.1 in
+    let on = number_written limit left (with_digit None c) bytes n rest below.0 below.1 in
+    (on.0, ap (λ (d : List ℕ). d ++ bytes) (sym (first_digit c (with_digit None c) refl bounds.0 bounds.1)) ∙ on.1)
+
+-- ---- words
+
+body_written : (n : ℕ) (bytes word rest : List ℕ) → body n bytes ≡ Ok (word, rest) → (length word ≡ n) × (bytes ≡ word ++ carriage_return ∷ line_feed ∷ rest)
+unfolding body
+body_written n bytes word rest e =
+    let there = if_later (nat_lt (length bytes) n) More _ (word, rest) e in
+    let found = then_ok (line_end (drop n bytes)) (λ behind. Ok (take n bytes, behind)) (word, rest) there.1 in
+    let same : (take n bytes, found.0) ≡ (word, rest) = same_ok (take n bytes, found.0) (word, rest) found.1.1 in
+    let long : n ≤ length bytes = (let t = there.0 in grind (arith, common_steps)) in
+    let is : take n bytes ≡ word = ap (λ (x : List ℕ × List ℕ). x.0) same in (
+      ap length (sym is) ∙ omega (arith, length-take n bytes),
+      sym (take-append-drop n bytes) ∙ ap (λ (b : List ℕ). take n bytes ++ b) (line_end_written (drop n bytes) found.0 found.1.0) ∙ ap (λ (x : List ℕ × List ℕ). x.0 ++ carriage_return ∷ line_feed ∷ x.1) same,
+    )
+
+bulk_written : (room : ℕ) (bytes word rest : List ℕ) → bulk room bytes ≡ Ok (word, rest) → (exceeds (Bytes room) (length word) ≡ false) × (bytes ≡ word_text word ++ rest)
+unfolding bulk
+bulk_written room bytes word rest e =
+    let marked = then_ok (mark dollar bytes) (λ behind. length_text (Bytes room) behind >>= λ n. body n.0 n.1) (word, rest) e in
+    let counted = then_ok (length_text (Bytes room) marked.0) (λ n. body n.0 n.1) (word, rest) marked.1.1 in
+    let number = length_text_written (Bytes room) marked.0 counted.0.0 counted.0.1 counted.1.0 in
+    let found = body_written counted.0.0 counted.0.1 word rest counted.1.1 in
+    let flat : word_text word ++ rest ≡ dollar ∷ (decimal (length word) ++ carriage_return ∷ line_feed ∷ (word ++ carriage_return ∷ line_feed ∷ rest)) = simp append_assoc in (
+      ap (exceeds (Bytes room)) found.0 ∙ number.0,
+      mark_written dollar bytes marked.0 marked.1.0 ∙ ap (λ (b : List ℕ). dollar ∷ b) (number.1 ∙ ap (λ (b : List ℕ). decimal counted.0.0 ++ carriage_return ∷ line_feed ∷ b) found.1)
+          ∙ ap (λ (k : ℕ). dollar ∷ (decimal k ++ carriage_return ∷ line_feed ∷ (word ++ carriage_return ∷ line_feed ∷ rest))) (sym found.0) ∙ sym flat,
+    )
+
+record Written (n room : ℕ) (bytes : List ℕ) (words : List (List ℕ)) (rest : List ℕ) : Type 0 where
+  count : length words ≡ n
+  each : All (λ word. length word ≤ 1048576) words
+  all : sum_by cost words ≤ room
+  is : bytes ≡ flat_map word_text words ++ rest
+
+one_more : (n room : ℕ) (bytes word behind : List ℕ) (words : List (List ℕ)) (rest : List ℕ) → (exceeds (Bytes room) (length word) ≡ false) × (bytes ≡ word_text word ++ behind)
+    → Written n (room - (length word + 16)) behind words rest → Written (suc n) room bytes (word ∷ words) rest
+one_more n room bytes word behind words rest first others =
+    let limit : length word ≤ 1048576 = (let t = first.0 in grind (arith, common_steps)) in
+    let fits : cost word ≤ room = (let t = first.0 in grind (arith, common_steps)) in
+    let total : cost word + sum_by cost words ≤ room = omega (arith, others.all) in
+    record {
+      count = omega (arith, others.count);
+      each = All-cons (λ (w : List ℕ). length w ≤ 1048576) word words limit others.each;
+      all = rw sum_by-cons total;
+      is = first.1 ∙ ap (λ (b : List ℕ). word_text word ++ b) others.is ∙ sym (append_assoc (word_text word) (flat_map word_text words) rest);
+    }
+
+bulks_written : (n room : ℕ) (bytes : List ℕ) (words : List (List ℕ)) (rest : List ℕ) → bulks n room bytes ≡ Ok (words, rest) → Written n room bytes words rest
+unfolding bulks
+bulks_written zero room bytes words rest e =
+    let same : ([], bytes) ≡ (words, rest) = same_ok ([], bytes) (words, rest) e in
+    let P : List (List ℕ) × List ℕ → Type 0 = λ x. Written 0 room bytes x.0 x.1 in
+    subst P same (record { count = refl; each = All-nil (λ (w : List ℕ). length w ≤ 1048576); all = omega arith; is = refl })
+bulks_written (suc n) room bytes words rest e =
+    let first = then_ok (bulk room bytes) (λ first. bulks n (room - (length first.0 + 16)) first.1 >>= λ others. Ok (first.0 ∷ others.0, others.1)) (words, rest) e in
+    let others = then_ok (bulks n (room - (length first.0.0 + 16)) first.0.1) (λ others. Ok (first.0.0 ∷ others.0, others.1)) (words, rest) first.1.1 in
+    let same : (first.0.0 ∷ others.0.0, others.0.1) ≡ (words, rest) = same_ok (first.0.0 ∷ others.0.0, others.0.1) (words, rest) others.1.1 in
+    let P : List (List ℕ) × List ℕ → Type 0 = λ x. Written (suc n) room bytes x.0 x.1 in
+    subst P same (one_more n room bytes first.0.0 first.0.1 others.0.0 others.0.1 (bulk_written room bytes first.0.0 first.0.1 first.1.0) (bulks_written n (room - (length first.0.0 + 16)) first.0.1 others.0.0 others.0.1 others.1.0))
+
+-- ---- requests
+
+minus_one_written : (left : ℕ) (bytes : List ℕ) (n : ℕ) (rest : List ℕ) → minus_one left bytes ≡ Ok (n, rest) → (n ≡ 0) × (bytes ≡ 49 ∷ carriage_return ∷ line_feed ∷ rest)
+unfolding minus_one
+minus_one_written left [] n rest e = absurd cc
+minus_one_written left (c ∷ bytes) n rest e =
+    let found = if_first (c == 49) (text_end left (Some 0) bytes) (Bad BadLength left) (n, rest) e in
+    let ended = text_end_written left 0 bytes n rest found.1 in
+    let is : c ≡ 49 = (let t = found.0 in grind (arith, common_steps)) in
+    (sym ended.0, ap (λ (b : ℕ). b ∷ bytes) is ∙ ap (λ (b : List ℕ). 49 ∷ b) ended.1)
+
+abbrev HeaderWritten : List ℕ → ℕ → List ℕ → Type 0
+HeaderWritten bytes n rest = ((exceeds Words n ≡ false) × (bytes ≡ length_line star n ++ rest)) ⊎ ((n ≡ 0) × (bytes ≡ null_text ++ rest))
+
+count_written : (bytes : List ℕ) (n : ℕ) (rest : List ℕ) → count bytes ≡ Ok (n, rest) → HeaderWritten (star ∷ bytes) n rest
+unfolding count
+count_written [] n rest e = absurd cc
+count_written (c ∷ bytes) n rest e = elim (if_ok (c == 45) (minus_one (length bytes + 2) bytes) (length_text Words (c ∷ bytes)) (n, rest) e) [
+  | inl minus ↦
+      let found = minus_one_written (length bytes + 2) bytes n rest minus.1 in
+      let is : c ≡ 45 = (let t = minus.0 in grind (arith, common_steps)) in
+      inr (found.0, ap (λ (b : ℕ). star ∷ b ∷ bytes) is ∙ ap (λ (b : List ℕ). star ∷ 45 ∷ b) found.1)
+  | inr plain ↦
+      let found = length_text_written Words (c ∷ bytes) n rest plain.1 in
+      inl (found.0, ap (λ (b : List ℕ). star ∷ b) (found.1 ∙ sym (append_assoc (decimal n) (carriage_return ∷ line_feed ∷ []) rest)))
+]
+
+header_written : (bytes : List ℕ) (n : ℕ) (rest : List ℕ) → header bytes ≡ Ok (n, rest) → HeaderWritten bytes n rest
+unfolding header
+header_written bytes n rest e =
+    let marked = then_ok (mark star bytes) count (n, rest) e in
+    let P : List ℕ → Type 0 = λ b. HeaderWritten b n rest in
+    subst P (sym (mark_written star bytes marked.0 marked.1.0)) (count_written marked.0 n rest marked.1.1)
+
+nothing_written : (n room : ℕ) (bytes : List ℕ) (words : List (List ℕ)) (rest : List ℕ) → n ≡ 0 → bulks n room bytes ≡ Ok (words, rest) → (words ≡ []) × (bytes ≡ rest)
+unfolding bulks
+nothing_written zero room bytes words rest none e =
+    let same : ([], bytes) ≡ (words, rest) = same_ok ([], bytes) (words, rest) e in
+    (sym (ap (λ (x : List (List ℕ) × List ℕ). x.0) same), ap (λ (x : List (List ℕ) × List ℕ). x.1) same)
+nothing_written (suc n) room bytes words rest none e = absurd (omega arith)
+
+pub only_texts_are_read : OnlyTextsAreRead
+unfolding request
+only_texts_are_read bytes words rest e =
+    let headed = then_ok (header bytes) (λ n. bulks n.0 16777216 n.1) (words, rest) e in
+    elim (header_written bytes headed.0.0 headed.0.1 headed.1.0) [
+      | inl plain ↦
+          let found = bulks_written headed.0.0 16777216 headed.0.1 words rest headed.1.1 in
+          let few : headed.0.0 ≤ 65536 = (let t = plain.0 in grind (arith, common_steps)) in
+          inl (
+            record { count = omega (arith, found.count); each = found.each; all = found.all },
+            plain.1 ∙ ap (λ (k : ℕ). length_line star k ++ headed.0.1) (sym found.count) ∙ ap (λ (b : List ℕ). length_line star (length words) ++ b) found.is
+                ∙ sym (append_assoc (length_line star (length words)) (flat_map word_text words) rest),
+          )
+      | inr null ↦
+          let found = nothing_written headed.0.0 16777216 headed.0.1 words rest null.0 headed.1.1 in
+          inr (found.0, null.1 ∙ ap (λ (b : List ℕ). null_text ++ b) found.1)
+    ]

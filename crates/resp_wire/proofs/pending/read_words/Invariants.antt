@@ -1,0 +1,12 @@
+use Rattle.std.proofs.Common.{◌≡◌}
+use Rattle.resp_wire.specs.Held.{IsBegun}
+use Rattle.resp_wire.proofs.pending.read_words.Given as goal
+
+abbrev pub invariant-loop-pending : goal.invariant-loop-pending
+invariant-loop-pending l = record {
+  begun : IsBegun l.buf l.pending;
+  start : l.pending.start ≡ l.fn.pending.start;
+}
+
+abbrev pub decreases-loop-pending : goal.decreases-loop-pending
+decreases-loop-pending l = l.pending.missing

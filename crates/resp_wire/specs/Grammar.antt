@@ -1,0 +1,148 @@
+-- The requests that a text holds. A request is an array of bulk strings: `*`, a number and a line end, and then
+-- for each bulk string `$`, its length, a line end, its bytes and a line end.
+use Rattle.std.specs.Prelude.{ℕ, zero, suc, ◌+◌, ◌-◌, ◌*◌, Bool, false, not, ◌==◌, ◌||◌, nat_lt, if◌then◌else◌, List, [], ◌∷◌, length, take, drop, Option, Some, None, unwrap_or, Result, Ok, Err}
+use Rattle.std.specs.Char.{is_ascii_digit}
+use Rattle.resp_wire.specs.declared.stop.FaultKind.{FaultKind}
+use Rattle.resp_wire.specs.declared.stop.FaultKind.TheVariants.{BadMark, BadLength, TooLong}
+use Rattle.resp_wire.specs.declared.stop.Stop.{Stop}
+use Rattle.resp_wire.specs.declared.stop.Stop.TheVariants.{More, Bad}
+use Rattle.resp_wire.specs.declared.parts.Limit.{Limit}
+use Rattle.resp_wire.specs.declared.parts.Limit.TheVariants.{Words, Bytes}
+
+-- A part of a text is read as its value and the text behind it. `More` says that the text ends before the part
+-- does, and `Bad` that no longer text has the part either: its number counts the bytes from the fault's place on.
+abbrev pub Part : Type 0 → Type 0
+Part A = Result (A × List ℕ) Stop
+
+infixl 10 ◌>>=◌
+abbrev pub ◌>>=◌ : {A B : Type 0} → Result A Stop → (A → Result B Stop) → Result B Stop
+(Ok x) >>= f = f x
+(Err e) >>= f = Err e
+
+-- the bytes that mark the parts: `*`, `$`, `-`, and the two of a line end
+abbrev pub star : ℕ
+star = 42
+
+abbrev pub dollar : ℕ
+dollar = 36
+
+abbrev pub minus : ℕ
+minus = 45
+
+abbrev pub carriage_return : ℕ
+carriage_return = 13
+
+abbrev pub line_feed : ℕ
+line_feed = 10
+
+-- the text behind this byte
+unfoldable pub mark : ℕ → List ℕ → Result (List ℕ) Stop
+mark byte [] = Err More
+mark byte (c ∷ rest) = if c == byte then Ok rest else Err (Bad BadMark (length rest + 1))
+
+-- the text behind a line end
+unfoldable pub line_end : List ℕ → Result (List ℕ) Stop
+line_end bytes = mark carriage_return bytes >>= mark line_feed
+
+-- ---- lengths
+
+-- A request has at most 65,536 words, and a word at most 1,048,576 bytes. The room is what its request may still
+-- hold, where each word takes 16 more than its length.
+abbrev pub exceeds : Limit → ℕ → Bool
+exceeds Words n = nat_lt 65536 n
+exceeds (Bytes room) n = nat_lt 1048576 n || nat_lt room (n + 16)
+
+-- The digits so far stand for a number, or there are none.
+abbrev pub with_digit : Option ℕ → ℕ → ℕ
+with_digit so_far digit = unwrap_or so_far 0 * 10 + (digit - 48)
+
+abbrev pub is_lone_zero : Option ℕ → Bool
+is_lone_zero None = false
+is_lone_zero (Some n) = n == 0
+
+-- the end of a length text, whose mark stands where `left` bytes are left
+unfoldable pub text_end : ℕ → Option ℕ → List ℕ → Part ℕ
+text_end left None bytes = Err (Bad BadLength left)
+text_end left (Some n) [] = Err More
+text_end left (Some n) (c ∷ rest) = if c == carriage_return then (mark line_feed rest >>= λ behind. Ok (n, behind)) else Err (Bad BadLength left)
+
+-- a length text behind its digits so far
+unfoldable pub length_from : Limit → ℕ → Option ℕ → List ℕ → Part ℕ
+length_from limit left so_far [] = Err More
+length_from limit left so_far (c ∷ rest) =
+    if not (is_ascii_digit c) then text_end left so_far (c ∷ rest)
+    else if is_lone_zero so_far then Err (Bad BadLength left)
+    else if exceeds limit (with_digit so_far c) then Err (Bad TooLong left)
+    else length_from limit left (Some (with_digit so_far c)) rest
+
+-- a length text behind its mark: `0`, or a digit 1 to 9 and more digits, and a line end
+unfoldable pub length_text : Limit → List ℕ → Part ℕ
+length_text limit bytes = length_from limit (length bytes + 1) None bytes
+
+-- ---- requests
+
+-- n bytes and a line end
+unfoldable pub body : ℕ → List ℕ → Part (List ℕ)
+body n bytes = if nat_lt (length bytes) n then Err More else (line_end (drop n bytes) >>= λ behind. Ok (take n bytes, behind))
+
+-- a bulk string, for which its request has this room
+unfoldable pub bulk : ℕ → List ℕ → Part (List ℕ)
+bulk room bytes = do
+  behind ← mark dollar bytes
+  n ← length_text (Bytes room) behind
+  body n.0 n.1
+
+unfoldable pub bulks : ℕ → ℕ → List ℕ → Part (List (List ℕ))
+bulks zero room bytes = Ok ([], bytes)
+bulks (suc n) room bytes = do
+  first ← bulk room bytes
+  others ← bulks n (room - (length first.0 + 16)) first.1
+  Ok (first.0 ∷ others.0, others.1)
+
+-- `-1` in the place of an array's number, behind its `-`: no words
+unfoldable pub minus_one : ℕ → List ℕ → Part ℕ
+minus_one left [] = Err More
+minus_one left (c ∷ bytes) = if c == 49 then text_end left (Some 0) bytes else Err (Bad BadLength left)
+
+-- how many words a request has, by what follows the `*`
+unfoldable pub count : List ℕ → Part ℕ
+count [] = Err More
+count (c ∷ bytes) = if c == minus then minus_one (length bytes + 2) bytes else length_text Words (c ∷ bytes)
+
+unfoldable pub header : List ℕ → Part ℕ
+header bytes = mark star bytes >>= count
+
+-- the words of the request in front, which may hold 16,777,216
+unfoldable pub request : List ℕ → Part (List (List ℕ))
+request bytes = header bytes >>= λ n. bulks n.0 16777216 n.1
+
+-- How a text ends: behind a request, in a request that begins where so many bytes are left, or in a fault there.
+pub data End : Type 0 where
+  Whole : End
+  Open : ℕ → End
+  Fault : FaultKind → ℕ → End
+
+-- a request before others; one without words is passed over
+abbrev pub with_request : List (List ℕ) → List (List (List ℕ)) × End → List (List (List ℕ)) × End
+with_request [] found = found
+with_request (word ∷ words) found = ((word ∷ words) ∷ found.0, found.1)
+
+-- the end of a text that has less than a request
+abbrev pub open_end : List ℕ → End
+open_end [] = Whole
+open_end (c ∷ bytes) = Open (length bytes + 1)
+
+-- the requests of a text, which begins as this part says, where `others` gives those of what follows it
+abbrev pub after_request : (List ℕ → List (List (List ℕ)) × End) → List ℕ → Part (List (List ℕ)) → List (List (List ℕ)) × End
+after_request others bytes (Ok found) = with_request found.0 (others found.1)
+after_request others bytes (Err More) = ([], open_end bytes)
+after_request others bytes (Err (Bad kind left)) = ([], Fault kind left)
+
+-- the requests of a text in order, at most so many, and how it ends
+unfoldable pub requests_within : ℕ → List ℕ → List (List (List ℕ)) × End
+requests_within zero bytes = ([], open_end bytes)
+requests_within (suc n) bytes = after_request (requests_within n) bytes (request bytes)
+
+-- Each request takes a byte, so there are no more of them than bytes.
+unfoldable pub requests : List ℕ → List (List (List ℕ)) × End
+requests bytes = requests_within (length bytes) bytes

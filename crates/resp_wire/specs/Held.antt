@@ -1,0 +1,39 @@
+-- What a reader keeps of a request that it has not handed out.
+use Rattle.std.specs.Prelude.{◌≡◌, ◌<◌, ◌≤◌, ◌+◌, ℕ, Bool, false, List, [], ◌++◌, drop, length, IsOk, Result, Ok, Err}
+use Rattle.resp_wire.specs.declared.stop.NextFault.{NextFault}
+use Rattle.resp_wire.specs.declared.stop.NextFault.TheVariants.{NoMem, Wire}
+use Rattle.resp_wire.specs.declared.stop.Stop.{Stop}
+use Rattle.resp_wire.specs.declared.stop.Stop.TheVariants.{More, Bad}
+use Rattle.resp_wire.specs.declared.pending.Pending.{Pending}
+use Rattle.resp_wire.specs.Grammar.{Part, ◌>>=◌, bulk, bulks, request}
+use Rattle.resp_wire.specs.Reading.{IsHeaded}
+
+-- words that were read before, and what is read behind them
+abbrev pub with_front : List (List ℕ) → Part (List (List ℕ)) → Part (List (List ℕ))
+with_front front read = read >>= λ x. Ok (front ++ x.0, x.1)
+
+-- A header was read: however the input goes on, the request in front is the words that were read and those that are
+-- read from `next` on.
+pub record IsBegun (bytes : List ℕ) (p : Pending) : Type 0 where
+  pub before : p.start < p.next
+  pub inside : p.next ≤ length bytes
+  pub some : 0 < length p.words + p.missing
+  pub headed : IsHeaded (drop p.start bytes)
+  pub goes_on : (more : List ℕ) → request (drop p.start bytes ++ more) ≡ with_front p.words (bulks p.missing p.room (drop p.next bytes ++ more))
+
+pub record IsHeld (bytes : List ℕ) (p : Pending) : Type 0 where
+  pub before : p.start ≤ p.next
+  pub inside : p.next ≤ length bytes
+  pub here : p.missing ≡ 0 → p.start ≡ p.next
+  pub none : p.missing ≡ 0 → p.words ≡ []
+  pub begun : 0 < p.missing → IsBegun bytes p
+
+-- what is answered where a part was not read
+abbrev pub answer_of : Stop → Result Bool NextFault
+answer_of More = Ok false
+answer_of (Bad kind left) = Err (Wire kind left)
+
+-- memory is asked for where the next word is there
+abbrev pub AsksWord : List ℕ → Pending → NextFault → Type 0
+AsksWord bytes p NoMem = IsOk (bulk p.room (drop p.next bytes))
+AsksWord bytes p (Wire kind left) = Unit {0}

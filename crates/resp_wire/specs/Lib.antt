@@ -1,0 +1,9 @@
+pub mod Grammar
+pub mod Reading
+pub mod Parts
+pub mod Held
+pub mod Behind
+pub mod Longer
+pub mod Requests
+pub mod Holding
+pub mod Encoding

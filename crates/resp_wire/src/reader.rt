@@ -1,0 +1,93 @@
+ghost use Rattle.std.specs.Prelude.{◌≡◌, ◌<◌, ◌++◌, List, [], length, MatchOption, IfErr, IfOk, IfSome, IfNone, OnOk, OnErr};
+ghost use Rattle.resp_wire.specs.Grammar.{requests, Whole, Open};
+ghost use Rattle.resp_wire.specs.Reading.{Reads, IsUnfinished, Refused, AsksInside};
+
+use crate::pending::{Pending, begin, drop_front, read_words};
+use crate::stop::NextFault;
+use kv_base::{Blobs, NoMem};
+use std::alloc::Global;
+use std::marker::Model;
+use std::mem;
+
+/// A reader of requests (RESP2, arrays of bulk strings), which takes its bytes in any pieces. Contracts see it as the
+/// bytes that were fed and are not yet handed out.
+#[derive(Drop)]
+pub struct Reader {
+    alloc: Global,
+    buf: Vec<u8>,
+    pending: Pending,
+}
+
+impl Model for Reader {
+    ghost use Rattle.std.specs.Prelude.{List, ℕ, drop};
+    ghost use Rattle.resp_wire.specs.Held.{IsHeld};
+
+    ghost Value = { List ℕ };
+
+    ghost view = { λ r. drop r.pending.start r.buf.items };
+
+    ghost invariant = { λ r. IsHeld r.buf.items r.pending };
+}
+
+impl Reader {
+    /// A reader that was fed nothing.
+    pub fn new(alloc: Global) -> Reader
+        ensures { result ≡ [] }
+    {
+        let pending = Pending {
+            start: 0,
+            next: 0,
+            words: Blobs::new(alloc),
+            missing: 0,
+            room: 0,
+        };
+        Reader {
+            alloc,
+            buf: Vec::new(alloc),
+            pending,
+        }
+    }
+
+    /// Adds the piece at the end. After an error the reader is as it was.
+    pub fn feed(&mut self, piece: &[u8]) -> Result<(), NoMem>
+        ensures ok { OnOk result (self.new ≡ self.old ++ piece.now) }
+        ensures err { OnErr result (self.new ≡ self.old) }
+    {
+        drop_front(&mut self.buf, &mut self.pending);
+        self.buf.extend_from_slice(piece)?;
+        Ok(())
+    }
+
+    /// The next request that has words, or `None` where the bytes left are the beginning of a request, or none. Of an
+    /// unfinished request the reader keeps what it has read, so that no byte of a word is read twice.
+    ///
+    /// After `NoMem` the call may be tried again: no request is lost. A fault of the wire comes again at each further
+    /// call, whatever is fed.
+    pub fn next(&mut self) -> Result<Option<Blobs>, NextFault>
+        ensures some { IfOk result (λ got. IfSome got (λ words. Reads self.old words self.new × (length self.new < length self.old) × (0 < length words))) }
+        ensures none { IfOk result (λ got. IfNone got (Reads self.old [] self.new × IsUnfinished self.new)) }
+        ensures fault { IfErr result (λ e. Refused self.old e) }
+        ensures again { IfErr result (λ e. Refused self.new e) }
+        ensures memory { IfErr result (λ e. AsksInside self.new e) }
+        ensures err { OnErr result (Reads self.old [] self.new) }
+    {
+        if !begin(&self.buf, &mut self.pending)? {
+            return Ok(None);
+        }
+        if !read_words(self.alloc, &self.buf, &mut self.pending)? {
+            return Ok(None);
+        }
+        self.pending.start = self.pending.next;
+        let words = mem::replace(&mut self.pending.words, Blobs::new(self.alloc));
+        Ok(Some(words))
+    }
+
+    /// How many bytes are left of an unfinished request; `None` where the input ended behind a request.
+    pub fn finish(&self) -> Option<usize>
+        ensures left { MatchOption result (self.now ≡ []) (λ left. (left ≡ length self.now) × (0 < left)) }
+        ensures end { IsUnfinished self.now → MatchOption result ((requests self.now).1 ≡ Whole) (λ left. (requests self.now).1 ≡ Open left) }
+    {
+        let left = self.buf.len() - self.pending.start;
+        if left == 0 { None } else { Some(left) }
+    }
+}
