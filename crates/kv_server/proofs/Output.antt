@@ -1,17 +1,16 @@
 -- What a session says of an input that is told.
-use Rattle.std.proofs.Common.{◌≡◌, ◌≤◌, ◌<◌, ◌+◌, ℕ, zero, suc, List, [], ◌∷◌, ◌++◌, length, replicate, Bool, Option, Some, None, refl, sym, ap, subst, ◌∙◌, append_assoc, arith}
+use Rattle.std.proofs.Common.{◌≡◌, ◌+◌, ℕ, zero, suc, List, [], ◌∷◌, ◌++◌, length, replicate, Bool, Option, Some, None, refl, sym, ap, subst, ◌∙◌, append_assoc, arith}
 use Rattle.std.proofs.lemmas.List.{append-nil, length-append, length-replicate}
-use Rattle.std.specs.Io.KnownBytes.{Appends, Consumes, IsAtEnd}
 use Rattle.kv_base.specs.Map.{Bytes}
-use Rattle.kv_outside.specs.Readings.{next_reading, later_readings, TakesReading, TakesAll}
+use Rattle.kv_outside.specs.Readings.{next_reading, later_readings, TakesAll}
 use Rattle.kv_outside.specs.Writing.{AppendsFront}
-use Rattle.redis_model.specs.Machine.{State, start}
+use Rattle.redis_model.specs.Machine.{start}
 use Rattle.resp_wire.specs.Grammar.{End, Whole, requests}
 use Rattle.resp_wire.specs.Holding.{requests_go_on}
 use Rattle.kv_server.specs.declared.session.Outcome.{Outcome}
 use Rattle.kv_server.specs.declared.session.Outcome.TheVariants as outcome
 use Rattle.kv_server.specs.Dialog.{after, asking, text}
-use Rattle.kv_server.specs.Session.{Session, SessionParts}
+use Rattle.kv_server.specs.Session.{Session}
 use Rattle.kv_server.specs.Script.{status, first_readings, AreTold, OutputOf, FrontOf, IsAnswered, HasFront}
 use Rattle.kv_server.proofs.Waiting.{front_on}
 use Rattle.kv_server.proofs.Turns.{asking-append, text-append}

@@ -1,5 +1,5 @@
 -- A run over a source.
-use Rattle.std.proofs.Common.{◌≡◌, ◌≤◌, ◌<◌, ◌+◌, ℕ, Bool, true, false, zero, suc, List, [], ◌∷◌, ◌++◌, length, take, Option, Some, None, Result, Ok, Err, refl, sym, ap, subst, ◌∙◌, append_assoc, arith}
+use Rattle.std.proofs.Common.{◌≡◌, ◌≤◌, ◌<◌, ◌+◌, ℕ, Bool, true, false, List, [], ◌∷◌, ◌++◌, length, take, Option, Result, Ok, Err, refl, sym, ap, subst, ◌∙◌, arith}
 use Rattle.std.specs.Prelude.{◌||◌, ◌&&◌, ◌==◌, nat_lt}
 use Rattle.std.proofs.lemmas.List.{append-nil, length-append, length-take, nil_from_length}
 use Rattle.std.proofs.lemmas.Bool.Decides.{nat_tests}
@@ -14,14 +14,13 @@ use Rattle.kv_outside.specs.Readings.{TakesAll}
 use Rattle.kv_outside.specs.Sent.{nothing_sent, sent_then}
 use Rattle.kv_outside.specs.Writing.{AppendsFront}
 use Rattle.redis_model.specs.Machine.{State, start}
-use Rattle.resp_wire.specs.declared.stop.FaultKind.{FaultKind}
-use Rattle.resp_wire.specs.Grammar.{End, Whole, Open, Fault, requests, requests_within, open_end}
-use Rattle.resp_wire.specs.Reading.{IsUnfinished, IsFaulty}
-use Rattle.resp_wire.specs.Holding.{Holds, holds_here, holds_then, holds_fed, holds_unfinished, holds_all, holds_faulty}
+use Rattle.resp_wire.specs.Grammar.{End, Whole, requests, requests_within, open_end}
+use Rattle.resp_wire.specs.Reading.{IsUnfinished}
+use Rattle.resp_wire.specs.Holding.{Holds, holds_then, holds_fed, holds_unfinished, holds_all, holds_faulty}
 use Rattle.kv_server.specs.declared.session.Stopped.{Stopped}
 use Rattle.kv_server.specs.declared.session.Stopped.TheVariants as stopped
-use Rattle.kv_server.specs.Dialog.{after, asking, dialog, text}
-use Rattle.kv_server.specs.Session.{Pulls, Passes, Answered, Broken, Starved, Serves, Serving, Session, SessionParts, AreFirst, EndsAs, HasNoFault, IsCaused, LeftAs, UnusedAs, Writing, IsBroken}
+use Rattle.kv_server.specs.Dialog.{text}
+use Rattle.kv_server.specs.Session.{Pulls, Passes, Answered, Broken, Starved, Serves, Serving, Session, AreFirst, EndsAs, HasNoFault, IsCaused, LeftAs, UnusedAs, Writing, IsBroken}
 use Rattle.kv_server.specs.Script.{EndsReading, is_write_fault, outcome_by}
 use Rattle.kv_server.proofs.Waiting.{passed_all, front_after}
 use Rattle.kv_server.proofs.Serving.{serving_none, answered_then, broken_then, starved_then}

@@ -1,17 +1,17 @@
 -- What a loop over requests keeps, and how it ends.
-use Rattle.std.proofs.Common.{◌≡◌, ◌≤◌, ◌<◌, ◌+◌, ℕ, List, [], ◌∷◌, ◌++◌, length, Option, Some, None, Result, Ok, Err, refl, sym, ap, subst, ◌∙◌, append_assoc, arith}
+use Rattle.std.proofs.Common.{◌≤◌, ◌<◌, ℕ, List, [], ◌∷◌, ◌++◌, length, Option, Ok, Err, refl, sym, ap, subst, ◌∙◌, append_assoc, arith}
 use Rattle.std.proofs.lemmas.List.{append-nil, length-append}
 use Rattle.kv_base.specs.Map.{Bytes}
-use Rattle.kv_outside.specs.Causes.{Rose, rose_since}
+use Rattle.kv_outside.specs.Causes.{rose_since}
 use Rattle.kv_outside.specs.Readings.{TakesAll, takes_then, takes_none}
 use Rattle.kv_outside.specs.Writing.{AppendsFront}
 use Rattle.redis_model.specs.Machine.{State}
-use Rattle.resp_wire.specs.Reading.{Reads, IsUnfinished, IsFaulty}
+use Rattle.resp_wire.specs.Reading.{Reads, IsUnfinished}
 use Rattle.resp_wire.specs.Holding.{Holds, holds_here, holds_one, holds_skip, holds_then}
 use Rattle.kv_server.specs.declared.session.Stopped.{Stopped}
 use Rattle.kv_server.specs.declared.session.Stopped.TheVariants as stopped
 use Rattle.kv_server.specs.Dialog.{Answer, say, dialog, after, asking, text}
-use Rattle.kv_server.specs.Session.{Passes, Turn, TakesTurn, Answered, Broken, Starved, Answers, AnswersAs, Serves, ServesAs, NextAs, Serving, IsFaultyText}
+use Rattle.kv_server.specs.Session.{Passes, TakesTurn, Answered, Broken, Starved, Answers, Serves, NextAs, Serving}
 use Rattle.kv_server.proofs.Waiting.{passes_here, passes_then, passes_front}
 use Rattle.kv_server.proofs.Turns.{asking-append, text-append, after-append, one_said}
 

@@ -1,11 +1,9 @@
 -- Requests answered one after the other.
-use Rattle.std.proofs.Common.{◌≡◌, ◌≤◌, ◌<◌, ◌+◌, ℕ, Bool, true, false, zero, suc, List, [], ◌∷◌, ◌++◌, length, Option, Some, None, Result, Ok, Err, refl, sym, ap, subst, ◌∙◌, append_assoc, arith}
-use Rattle.std.proofs.lemmas.List.{append-nil, length-append}
-use Rattle.std.specs.Prelude.{if◌then◌else◌, is_ok, unwrap_or, cond}
+use Rattle.std.proofs.Common.{◌≡◌, ◌+◌, ℕ, Bool, List, [], ◌∷◌, ◌++◌, length, Option, Some, Result, Ok, Err, refl, sym, ap, ◌∙◌, append_assoc, arith}
+use Rattle.std.proofs.lemmas.List.{append-nil}
+use Rattle.std.specs.Prelude.{if◌then◌else◌, is_ok, unwrap_or}
 use Rattle.std.specs.List.{flat_map}
 use Rattle.kv_base.specs.Map.{Bytes}
-use Rattle.kv_outside.specs.Readings.{TakesReading, TakesAll, takes_then, takes_none, takes_one}
-use Rattle.redis_model.specs.declared.command.Command.{Command}
 use Rattle.redis_model.specs.declared.reply.Reply.{Reply}
 use Rattle.redis_model.specs.declared.reply.Reply.TheVariants as reply
 use Rattle.redis_model.specs.declared.history.Step.TheVariants.{Call}

@@ -1,9 +1,9 @@
 -- A text on its way to a sink, behind what waits.
-use Rattle.std.proofs.Common.{◌≡◌, ◌≤◌, ℕ, List, [], ◌∷◌, ◌++◌, length, take, Option, Some, None, Result, Ok, Err, refl, sym, ap, subst, ◌∙◌, append_assoc, arith}
+use Rattle.std.proofs.Common.{◌≡◌, ℕ, List, [], ◌++◌, length, take, Option, Some, Result, Ok, Err, refl, sym, ap, subst, ◌∙◌, append_assoc, arith}
 use Rattle.std.proofs.lemmas.List.{append-nil, take_at}
 use Rattle.std.specs.Io.KnownBytes.{Appends}
 use Rattle.kv_outside.specs.Sent.{sent_then, nothing_sent}
-use Rattle.kv_outside.specs.Writing.{AppendsFront, front_then}
+use Rattle.kv_outside.specs.Writing.{AppendsFront}
 use Rattle.kv_outside.specs.Causes.{rose_since}
 use Rattle.kv_outside.specs.Writing.{Writes}
 use Rattle.kv_server.specs.Session.{Passes, Sends}

@@ -1,12 +1,12 @@
 -- What the script program promises.
-use Rattle.std.specs.Prelude.{◌≡◌, ◌≢◌, ℕ, zero, suc, Option, Some, None, length, Bool, true, false, not, ◌&&◌, ◌==◌, List, [], ◌∷◌, codes, Result, Ok, Err}
+use Rattle.std.specs.Prelude.{◌≡◌, ◌≢◌, ℕ, zero, suc, Option, Some, None, length, Bool, true, false, not, ◌&&◌, ◌==◌, List, [], ◌∷◌, codes, Result, Err}
 use Rattle.std.specs.Str.{bytes_eq}
 use Rattle.std.specs.Io.KnownBytes.{Appends}
 use Rattle.kv_base.specs.Map.{Bytes}
 use Rattle.kv_outside.specs.Readings.{next_reading, later_readings}
 use Rattle.kv_outside.specs.Writing.{AppendsFront}
 use Rattle.redis_model.specs.Machine.{start}
-use Rattle.resp_wire.specs.Grammar.{requests, End, Whole, Open, Fault}
+use Rattle.resp_wire.specs.Grammar.{requests, Whole}
 use Rattle.kv_server.specs.declared.session.Outcome.{Outcome}
 use Rattle.kv_server.specs.declared.session.Outcome.TheVariants as outcome
 use Rattle.kv_server.specs.declared.session.Stopped.{Stopped}

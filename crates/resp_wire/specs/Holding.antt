@@ -99,6 +99,11 @@ faulty_fed a kind left piece p more =
 pub faulty_here : (a : List ℕ) (kind : FaultKind) (left : ℕ) → IsFaulty a kind left → requests a ≡ ([], Fault kind left)
 faulty_here a kind left p = ap requests (sym (append-nil a)) ∙ p [] ∙ ap (λ (n : ℕ). ([], Fault kind n)) (omega arith)
 
+pub faulty_same : (a : List ℕ) (kind : FaultKind) (left : ℕ) (kind' : FaultKind) (left' : ℕ) → IsFaulty a kind left → IsFaulty a kind' left' → (kind ≡ kind') × (left ≡ left')
+faulty_same a kind left kind' left' p q =
+    let same : Fault kind left ≡ Fault kind' left' = ap (λ (found : Requests). found.1) (sym (faulty_here a kind left p) ∙ faulty_here a kind' left' q) in
+    (cc, cc)
+
 open_is_none : (rest : List ℕ) (kind : FaultKind) (left : ℕ) → open_end rest ≡ Fault kind left → ⊥
 open_is_none [] kind left e = cc
 open_is_none (c ∷ rest) kind left e = cc

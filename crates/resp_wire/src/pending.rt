@@ -60,7 +60,9 @@ pub fn begin(buf: &[u8], pending: &mut Pending) -> Result<bool, NextFault>
     ensures held { IsHeld buf.now pending.new }
     ensures forward { pending.old.start ≤ pending.new.start }
     ensures skipped { Reads (drop pending.old.start buf.now) [] (drop pending.new.start buf.now) }
-    ensures found { IfOk result (λ found. MatchBool found (0 < pending.new.missing) (IsUnfinished (drop pending.new.start buf.now))) }
+    ensures found { IfOk result (λ found. MatchBool found
+        (0 < pending.new.missing)
+        (IsUnfinished (drop pending.new.start buf.now))) }
     ensures fault { IfErr result (λ e. Refused (drop pending.new.start buf.now) e) }
     ensures memory { IfErr result (λ e. AsksInside (drop pending.new.start buf.now) e) }
 {
@@ -99,8 +101,11 @@ pub fn read_words(alloc: Global, buf: &[u8], pending: &mut Pending) -> Result<bo
     requires { IsBegun buf.now pending.old }
     ensures begun { IsBegun buf.now pending.new }
     ensures start { pending.new.start ≡ pending.old.start }
-    ensures read { IfOk result (λ whole. MatchBool whole (pending.new.missing ≡ 0) ((0 < pending.new.missing) × IsUnfinished (drop pending.new.start buf.now))) }
-    ensures fault { IfErr result (λ e. (0 < pending.new.missing) × Refused (drop pending.new.start buf.now) e) }
+    ensures read { IfOk result (λ whole. MatchBool whole
+        (pending.new.missing ≡ 0)
+        ((0 < pending.new.missing) × IsUnfinished (drop pending.new.start buf.now))) }
+    ensures fault { IfErr result (λ e.
+        (0 < pending.new.missing) × Refused (drop pending.new.start buf.now) e) }
     ensures memory { IfErr result (λ e. AsksWord buf.now pending.new e) }
 {
     while pending.missing > 0 {

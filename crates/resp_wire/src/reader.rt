@@ -9,8 +9,13 @@ use std::alloc::Global;
 use std::marker::Model;
 use std::mem;
 
-/// A reader of requests (RESP2, arrays of bulk strings), which takes its bytes in any pieces. Contracts see it as the
-/// bytes that were fed and are not yet handed out.
+/// A reader of requests, which takes its bytes in any pieces. Contracts see it as the bytes that were fed and are not
+/// yet handed out.
+///
+/// A request is an array of bulk strings, as the RESP2 protocol specification has it: `*`, the number of words, and for
+/// each word `$`, its length in bytes, and its bytes. An empty array and the null array `*-1` are passed over. This
+/// server takes at most 65,536 words, each of at most 1,048,576 bytes, whose lengths with 16 more for each make at most
+/// 16,777,216, and a number is written without a sign or a leading zero.
 #[derive(Drop)]
 pub struct Reader {
     alloc: Global,
@@ -61,11 +66,15 @@ impl Reader {
     /// The next request that has words, or `None` where the bytes left are the beginning of a request, or none. Of an
     /// unfinished request the reader keeps what it has read, so that no byte of a word is read twice.
     ///
-    /// After `NoMem` the call may be tried again: no request is lost. A fault of the wire comes again at each further
-    /// call, whatever is fed.
+    /// `NoMem` comes inside a request alone. It leaves all requests, so the call may be tried again. A fault of the
+    /// wire is found at the first byte that shows it. It comes again at each further call, whatever is fed.
     pub fn next(&mut self) -> Result<Option<Blobs>, NextFault>
-        ensures some { IfOk result (λ got. IfSome got (λ words. Reads self.old words self.new × (length self.new < length self.old) × (0 < length words))) }
-        ensures none { IfOk result (λ got. IfNone got (Reads self.old [] self.new × IsUnfinished self.new)) }
+        ensures some { IfOk result (λ got. IfSome got (λ words.
+            Reads self.old words self.new
+            × (length self.new < length self.old)
+            × (0 < length words))) }
+        ensures none { IfOk result (λ got. IfNone got
+            (Reads self.old [] self.new × IsUnfinished self.new)) }
         ensures fault { IfErr result (λ e. Refused self.old e) }
         ensures again { IfErr result (λ e. Refused self.new e) }
         ensures memory { IfErr result (λ e. AsksInside self.new e) }
@@ -84,8 +93,12 @@ impl Reader {
 
     /// How many bytes are left of an unfinished request; `None` where the input ended behind a request.
     pub fn finish(&self) -> Option<usize>
-        ensures left { MatchOption result (self.now ≡ []) (λ left. (left ≡ length self.now) × (0 < left)) }
-        ensures end { IsUnfinished self.now → MatchOption result ((requests self.now).1 ≡ Whole) (λ left. (requests self.now).1 ≡ Open left) }
+        ensures left { MatchOption result
+            (self.now ≡ [])
+            (λ left. (left ≡ length self.now) × (0 < left)) }
+        ensures end { IsUnfinished self.now → MatchOption result
+            ((requests self.now).1 ≡ Whole)
+            (λ left. (requests self.now).1 ≡ Open left) }
     {
         let left = self.buf.len() - self.pending.start;
         if left == 0 { None } else { Some(left) }

@@ -20,6 +20,7 @@ pub enum NextFault {
     /// Want of memory. All bytes are kept, so the call may be tried again.
     NoMem,
     /// A fault, and how many of the bytes fed so far stand from its place on. It comes again at each further call.
+    /// The place is the wrong byte for `BadMark`, and else the `*` or `$` before the number.
     Wire(FaultKind, usize),
 }
 

@@ -1,4 +1,4 @@
-use Rattle.kv_server.proofs.Waiting.{sends_none, sends_flushed}
+use Rattle.kv_server.proofs.Waiting.{sends_flushed}
 use Rattle.kv_server.proofs.session.pass_on.Goals as goal
 
 pub returns : goal.returns

@@ -1,4 +1,4 @@
-use Rattle.std.proofs.Common.{◌≡◌, ◌∙◌, ℕ, List, length, take, ap}
+use Rattle.std.proofs.Common.{◌∙◌, ℕ, take, ap}
 use Rattle.std.proofs.lemmas.Result.{err_from_is_err_and}
 use Rattle.kv_server.proofs.Waiting.{taken_back, sends_waiting, sends_straight, sends_stuck}
 use Rattle.kv_server.proofs.session.send.Goals as goal

@@ -1,4 +1,4 @@
-use Rattle.std.proofs.Common.{◌≡◌, ◌∙◌, ◌≤◌, ℕ, List, [], ◌∷◌, length, refl, sym, arith}
+use Rattle.std.proofs.Common.{[], ◌∷◌, sym, arith}
 use Rattle.std.proofs.lemmas.Result.{err_from_is_err_and}
 use Rattle.kv_outside.specs.Readings.{takes_none, takes_one}
 use Rattle.kv_server.specs.Store.{state_of}

@@ -1,4 +1,4 @@
-use Rattle.std.proofs.Common.{◌≡◌, ◌≤◌, ◌<◌, ◌+◌, ℕ, List, [], length, take, arith}
+use Rattle.std.proofs.Common.{take}
 use Rattle.kv_server.specs.Session.{Pulls}
 use Rattle.kv_server.proofs.Run.{pulled, pull_failed}
 use Rattle.kv_server.proofs.top.pull.Goals as goal

@@ -1,4 +1,4 @@
-use Rattle.std.proofs.Common.{◌≡◌, ◌∙◌, ◌≤◌, ◌<◌, ◌+◌, ◌^◌, ℕ, List, length, [], sym, refl, arith}
+use Rattle.std.proofs.Common.{◌∙◌, [], refl, arith}
 use Rattle.kv_server.specs.Store.{state_of}
 use Rattle.kv_server.proofs.Run.{run_begins, run_closes, run_on, run_stops_at, run_spent, pull_stops, pull_caused, attend_caused, still_unfinished, pulled_few, pulled_on}
 use Rattle.kv_outside.specs.Taken.{nothing_taken}

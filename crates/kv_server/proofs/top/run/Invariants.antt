@@ -1,4 +1,4 @@
-use Rattle.std.proofs.Common.{◌≡◌, ◌≤◌, ◌-◌, ◌^◌, length}
+use Rattle.std.proofs.Common.{◌≡◌, ◌≤◌, ◌-◌, ◌^◌}
 use Rattle.kv_server.specs.Store.{state_of}
 use Rattle.kv_server.proofs.Run.{InRun}
 use Rattle.kv_server.proofs.top.run.Given as goal
