@@ -5,13 +5,13 @@ use Rattle.kv_base.specs.Map.{Bytes}
 use Rattle.kv_outside.specs.Readings.{next_reading, later_readings, TakesAll}
 use Rattle.kv_outside.specs.Writing.{AppendsFront}
 use Rattle.redis_model.specs.Machine.{start}
-use Rattle.resp_wire.specs.Grammar.{End, Whole, requests}
-use Rattle.resp_wire.specs.Holding.{requests_go_on}
+use Rattle.resp_wire.specs.Grammar.{End, Whole, Open, Fault, requests}
+use Rattle.resp_wire.specs.Holding.{requests_go_on, faults_stay}
 use Rattle.kv_server.specs.declared.session.Outcome.{Outcome}
 use Rattle.kv_server.specs.declared.session.Outcome.TheVariants as outcome
 use Rattle.kv_server.specs.Dialog.{after, asking, text}
-use Rattle.kv_server.specs.Session.{Session}
-use Rattle.kv_server.specs.Script.{status, first_readings, AreTold, OutputOf, FrontOf, IsAnswered, HasFront}
+use Rattle.kv_server.specs.Session.{Session, IsBroken}
+use Rattle.kv_server.specs.Script.{status, first_readings, AreTold, OutputOf, FrontOf, IsAnswered, HasFront, EndsBadly}
 use Rattle.kv_server.proofs.Waiting.{front_on}
 use Rattle.kv_server.proofs.Turns.{asking-append, text-append}
 
@@ -81,7 +81,7 @@ unfolding Session
 closed_output outcome.Closed n a b None l' h i e e' is p none = tt
 closed_output outcome.Closed n a b (Some input) None h i e e' is p none = absurd p.took
 closed_output outcome.Closed n a b (Some input) (Some left) h i e e' is p none =
-    let all : input ≡ p.taken = p.took ∙ ap (λ (x : Bytes). p.taken ++ x) p.read_all ∙ append-nil p.taken in
+    let all : input ≡ p.taken = p.took ∙ ap (λ (x : Bytes). p.taken ++ x) p.ends.2 ∙ append-nil p.taken in
     let found : requests input ≡ (p.served, Whole) = ap requests all ∙ p.ends.0 in
     let same : (requests input).0 ≡ p.served = ap (λ (x : List (List Bytes) × End). x.0) found in (
       subst (OutputOf a h i) (sym same) (record { nows = p.nows; told = front_told a p.nows p.unused (are_told a b (p.nows ++ p.unused) p.readings); each = p.each; wrote = p.wrote }),
@@ -114,3 +114,27 @@ broken_output outcome.NoMem n a b l l' h i e e' is p six = absurd (omega arith)
 broken_output outcome.ReadFault n a b l l' h i e e' is p six = absurd (omega arith)
 broken_output outcome.Protocol n a b l l' h i e e' is p six = absurd (omega arith)
 broken_output outcome.Spent n a b l l' h i e e' is p six = absurd (omega arith)
+
+-- the input is off the grammar, or ends inside a request
+bad_end : (l' : Known) (taken left : Bytes) (e : Bool) (found : End) → (requests taken).1 ≡ found → IsBroken found e (Some left) → (requests (taken ++ left)).1 ≡ Whole → ⊥
+bad_end l' taken left e Whole is p whole = p
+bad_end l' taken left e (Open unread) is p whole =
+    let same : taken ++ left ≡ taken = ap (λ (x : Bytes). taken ++ x) p.1 ∙ append-nil taken in
+    let both : Open unread ≡ Whole = sym is ∙ ap (λ (x : Bytes). (requests x).1) (sym same) ∙ whole in
+    absurd cc
+bad_end l' taken left e (Fault kind unread) is p whole =
+    let stays = faults_stay taken left kind unread is in
+    let both : Fault kind (unread + length left) ≡ Whole = ap (λ (x : List (List Bytes) × End). x.1) (sym stays) ∙ whole in
+    absurd cc
+
+pub protocol_output : (o : Outcome) (n : ℕ) (a b l l' h i : Known) (e e' : Bool) → n ≡ status o → Session o a b l l' h i e e' → n ≡ 7 → EndsBadly l
+unfolding Session
+protocol_output outcome.Protocol n a b None l' h i e e' is p seven = tt
+protocol_output outcome.Protocol n a b (Some input) None h i e e' is p seven = absurd p.took
+protocol_output outcome.Protocol n a b (Some input) (Some left) h i e e' is p seven =
+    λ whole. bad_end (Some left) p.taken left e' (requests p.taken).1 refl p.ends.1 (ap (λ (x : Bytes). (requests x).1) (sym p.took) ∙ whole)
+protocol_output outcome.Closed n a b l l' h i e e' is p seven = absurd (omega arith)
+protocol_output outcome.NoMem n a b l l' h i e e' is p seven = absurd (omega arith)
+protocol_output outcome.ReadFault n a b l l' h i e e' is p seven = absurd (omega arith)
+protocol_output outcome.WriteFault n a b l l' h i e e' is p seven = absurd (omega arith)
+protocol_output outcome.Spent n a b l l' h i e e' is p seven = absurd (omega arith)

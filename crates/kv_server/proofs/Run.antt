@@ -20,7 +20,7 @@ use Rattle.resp_wire.specs.Holding.{Holds, holds_then, holds_fed, holds_unfinish
 use Rattle.kv_server.specs.declared.session.Stopped.{Stopped}
 use Rattle.kv_server.specs.declared.session.Stopped.TheVariants as stopped
 use Rattle.kv_server.specs.Dialog.{text}
-use Rattle.kv_server.specs.Session.{Pulls, Passes, Answered, Broken, Starved, Serves, Serving, Session, AreFirst, EndsAs, HasNoFault, IsCaused, LeftAs, UnusedAs, Writing, IsBroken}
+use Rattle.kv_server.specs.Session.{Pulls, Passes, Answered, Broken, Starved, Serves, Serving, Session, AreFirst, EndsAs, HasNoFault, IsCaused, UnusedAs, Writing, IsBroken}
 use Rattle.kv_server.specs.Script.{EndsReading, is_write_fault, outcome_by}
 use Rattle.kv_server.proofs.Waiting.{passed_all, front_after}
 use Rattle.kv_server.proofs.Serving.{serving_none, answered_then, broken_then, starved_then}
@@ -170,16 +170,15 @@ module _ (a b l l1 l2 h i : Known) (s : State) (w rest piece : Bytes) (n : ℕ) 
   rest_is : (fed : Bytes) → fed ≡ rest ++ piece → fed ≡ rest
   rest_is fed e = e ∙ ap (λ (x : Bytes). rest ++ x) same ∙ append-nil rest
 
-  parts : (o : Outcome) (e e' : Bool) → EndsAs o p.taken p.serving.served e e' → LeftAs o l2 → UnusedAs o [] → Writing o h i (text start p.serving.served p.serving.answered.nows) → Session o a b l l2 h i e e'
+  parts : (o : Outcome) (e e' : Bool) → EndsAs o p.taken p.serving.served l2 e e' → UnusedAs o [] → Writing o h i (text start p.serving.served p.serving.answered.nows) → Session o a b l l2 h i e e'
   unfolding Session
-  parts o e e' ends left used wrote = record {
+  parts o e e' ends used wrote = record {
     taken = p.taken;
     served = p.serving.served;
     nows = p.serving.answered.nows;
     unused = [];
     took = took_all;
     ends = ends;
-    read_all = left;
     readings = subst (TakesAll a b) (sym (append-nil p.serving.answered.nows)) p.serving.answered.readings;
     used = used;
     each = p.serving.answered.each;
@@ -189,27 +188,27 @@ module _ (a b l l1 l2 h i : Known) (s : State) (w rest piece : Bytes) (n : ℕ) 
   pub run_ends : (o : Outcome) (fed : Bytes) (e e' : Bool) → fed ≡ rest ++ piece → EndsReading fed o → e' ≡ true → IsAtEnd l2 → Session o a b l l2 h i e e'
   run_ends outcome.Closed fed e e' is ends ended left =
       let whole : requests p.taken ≡ (p.serving.served, Whole) = holds_unfinished p.taken p.serving.served rest p.unfinished p.serving.holds ∙ ap (λ (x : End). (p.serving.served, x)) (sym (end_of rest p.unfinished) ∙ ap (λ (x : Bytes). (requests x).1) (sym (rest_is fed is)) ∙ ends) in
-      parts outcome.Closed e e' (whole, ended) left refl (all_sent h i _ p.serving.answered.wrote)
+      parts outcome.Closed e e' (whole, ended, left) refl (all_sent h i _ p.serving.answered.wrote)
   run_ends outcome.NoMem fed e e' is ends ended left = absurd ends
   run_ends outcome.ReadFault fed e e' is ends ended left = absurd ends
   run_ends outcome.WriteFault fed e e' is ends ended left = absurd ends
   run_ends outcome.Protocol fed e e' is ends ended left =
       let at_end : requests p.taken ≡ (p.serving.served, open_end rest) = holds_unfinished p.taken p.serving.served rest p.unfinished p.serving.holds in
       let not_whole : open_end rest ≡ Whole → ⊥ = λ q. ends (ap (λ (x : Bytes). (requests x).1) (rest_is fed is) ∙ end_of rest p.unfinished ∙ q) in
-      parts outcome.Protocol e e' (ap (λ (x : List (List Bytes) × End). x.0) at_end, subst (λ (x : End). IsBroken x e') (ap (λ (x : List (List Bytes) × End). x.1) (sym at_end)) (cut rest e' ended not_whole)) tt refl (all_sent h i _ p.serving.answered.wrote)
+      parts outcome.Protocol e e' (ap (λ (x : List (List Bytes) × End). x.0) at_end, subst (λ (x : End). IsBroken x e' l2) (ap (λ (x : List (List Bytes) × End). x.1) (sym at_end)) (cut rest e' ended left not_whole)) refl (all_sent h i _ p.serving.answered.wrote)
     where
-      cut : (rest : Bytes) (ended : Bool) → ended ≡ true → (open_end rest ≡ Whole → ⊥) → IsBroken (open_end rest) ended
-      cut [] ended is not_whole = absurd (not_whole refl)
-      cut (c ∷ rest) ended is not_whole = is
+      cut : (rest : Bytes) (ended : Bool) → ended ≡ true → IsAtEnd l2 → (open_end rest ≡ Whole → ⊥) → IsBroken (open_end rest) ended l2
+      cut [] ended is left not_whole = absurd (not_whole refl)
+      cut (c ∷ rest) ended is left not_whole = (is, left)
   run_ends outcome.Spent fed e e' is ends ended left = absurd ends
 
   pub run_unread : (e e' : Bool) → Session outcome.ReadFault a b l l2 h i e e'
-  run_unread e e' = parts outcome.ReadFault e e' (holds_all p.taken p.serving.served rest p.unfinished p.serving.holds) tt refl (all_sent h i _ p.serving.answered.wrote)
+  run_unread e e' = parts outcome.ReadFault e e' (holds_all p.taken p.serving.served rest p.unfinished p.serving.holds) refl (all_sent h i _ p.serving.answered.wrote)
 
   pub run_spent : (e e' : Bool) → n ≡ 2 ^ 40 → e' ≡ e → Session outcome.Spent a b l l2 h i e e'
   run_spent e e' full ended =
       let at_end : requests p.taken ≡ (p.serving.served, open_end rest) = holds_unfinished p.taken p.serving.served rest p.unfinished p.serving.holds in
-      parts outcome.Spent e e' (ap (λ (x : List (List Bytes) × End). x.0) at_end, p.count ∙ full, subst HasNoFault (ap (λ (x : List (List Bytes) × End). x.1) (sym at_end)) (no_fault rest), ended) tt refl (all_sent h i _ p.serving.answered.wrote)
+      parts outcome.Spent e e' (ap (λ (x : List (List Bytes) × End). x.0) at_end, p.count ∙ full, subst HasNoFault (ap (λ (x : List (List Bytes) × End). x.1) (sym at_end)) (no_fault rest), ended) refl (all_sent h i _ p.serving.answered.wrote)
     where
       no_fault : (rest : Bytes) → HasNoFault (open_end rest)
       no_fault [] = tt
@@ -225,7 +224,6 @@ run_unfed a b l l1 l2 h i s w rest piece n e e' p took = record {
   unused = [];
   took = taken_then l l1 l2 p.taken piece p.took took;
   ends = first_of (p.taken ++ piece) (rest ++ piece) p.serving.served (holds_fed p.taken p.serving.served rest piece p.serving.holds);
-  read_all = tt;
   readings = subst (TakesAll a b) (sym (append-nil p.serving.answered.nows)) p.serving.answered.readings;
   used = omega arith;
   each = p.serving.answered.each;
@@ -246,7 +244,6 @@ run_stops a b c l l1 l2 h i j s t w rest fed rest' piece n f f' e e' stopped.NoM
       unused = ran.unused;
       took = taken_then l l1 l2 p.taken piece p.took took;
       ends = first_of (p.taken ++ piece) q.1 (p.serving.served ++ q.0) holds;
-      read_all = tt;
       readings = ran.readings;
       used = ran.few;
       each = ran.each;
@@ -262,7 +259,6 @@ run_stops a b c l l1 l2 h i j s t w rest fed rest' piece n f f' e e' stopped.Wri
       unused = broke.unused;
       took = taken_then l l1 l2 p.taken piece p.took took;
       ends = first_of (p.taken ++ piece) q.1 (p.serving.served ++ q.0) holds;
-      read_all = tt;
       readings = broke.readings;
       used = broke.few;
       each = broke.each;
@@ -278,8 +274,7 @@ run_stops a b c l l1 l2 h i j s t w rest fed rest' piece n f f' e e' stopped.Pro
       nows = said.nows;
       unused = [];
       took = taken_then l l1 l2 p.taken piece p.took took;
-      ends = (ap (λ (v : List (List Bytes) × End). v.0) at_end, subst (λ (v : End). IsBroken v e') (ap (λ (v : List (List Bytes) × End). v.1) (sym at_end)) tt);
-      read_all = tt;
+      ends = (ap (λ (v : List (List Bytes) × End). v.0) at_end, subst (λ (v : End). IsBroken v e' l2) (ap (λ (v : List (List Bytes) × End). v.1) (sym at_end)) tt);
       readings = subst (TakesAll a c) (sym (append-nil said.nows)) said.readings;
       used = refl;
       each = said.each;

@@ -82,3 +82,8 @@ IsAnswered (Some input) ahead held held' = OutputOf ahead held held' (requests i
 abbrev pub HasFront : Option (List ℕ) → Option (List ℕ) → Option (List ℕ) → Option (List ℕ) → Type 0
 HasFront None ahead held held' = Unit {0}
 HasFront (Some input) ahead held held' = FrontOf ahead held held' (requests input).0
+
+-- The input is off the grammar, or ends inside a request.
+abbrev pub EndsBadly : Option (List ℕ) → Type 0
+EndsBadly None = Unit {0}
+EndsBadly (Some input) = (requests input).1 ≢ Whole

@@ -118,37 +118,32 @@ pub record Serving (old new : State) (ahead ahead' held held' : Option (List ℕ
 abbrev pub AreFirst : List (List Bytes) → List (List Bytes) → Type 0
 AreFirst served all = (others : List (List Bytes)) × (all ≡ served ++ others)
 
--- a text that does not end between requests: a fault, or a request that is cut where the input ends
-abbrev pub IsBroken : End → Bool → Type 0
-IsBroken Whole ended = ⊥
-IsBroken (Open left) ended = ended ≡ true
-IsBroken (Fault kind left) ended = Unit {0}
+-- The bytes taken do not end between requests: they hold a fault, or the input ends inside a request.
+abbrev pub IsBroken : End → Bool → Option (List ℕ) → Type 0
+IsBroken Whole ended left = ⊥
+IsBroken (Open unread) ended left = (ended ≡ true) × IsAtEnd left
+IsBroken (Fault kind unread) ended left = Unit {0}
 
 abbrev pub HasNoFault : End → Type 0
 HasNoFault Whole = Unit {0}
 HasNoFault (Open left) = Unit {0}
 HasNoFault (Fault kind left) = ⊥
 
--- How a session ended that took these bytes and answered these requests. The last argument tells of a read that
--- has answered the end of the input.
-abbrev pub EndsAs : Outcome → Bytes → List (List Bytes) → Bool → Bool → Type 0
-EndsAs outcome.Closed taken served ended ended' = (requests taken ≡ (served, Whole)) × (ended' ≡ true)
-EndsAs outcome.NoMem taken served ended ended' = AreFirst served (requests taken).0
-EndsAs outcome.ReadFault taken served ended ended' = (requests taken).0 ≡ served
-EndsAs outcome.WriteFault taken served ended ended' = AreFirst served (requests taken).0
-EndsAs outcome.Protocol taken served ended ended' = ((requests taken).0 ≡ served) × IsBroken (requests taken).1 ended'
-EndsAs outcome.Spent taken served ended ended' =
+-- How a session ended that took these bytes, answered these requests, and left this of the input. Whether a read has
+-- answered the end of the input is told of before and after.
+abbrev pub EndsAs : Outcome → Bytes → List (List Bytes) → Option (List ℕ) → Bool → Bool → Type 0
+EndsAs outcome.Closed taken served left ended ended' = (requests taken ≡ (served, Whole)) × (ended' ≡ true) × IsAtEnd left
+EndsAs outcome.NoMem taken served left ended ended' = AreFirst served (requests taken).0
+EndsAs outcome.ReadFault taken served left ended ended' = (requests taken).0 ≡ served
+EndsAs outcome.WriteFault taken served left ended ended' = AreFirst served (requests taken).0
+EndsAs outcome.Protocol taken served left ended ended' = ((requests taken).0 ≡ served) × IsBroken (requests taken).1 ended' left
+EndsAs outcome.Spent taken served left ended ended' =
     ((requests taken).0 ≡ served) × (length taken ≡ 2 ^ 40) × HasNoFault (requests taken).1 × (ended' ≡ ended)
 
 -- all of the text was written, or a front of it where a write failed
 abbrev pub Writing : Outcome → Option (List ℕ) → Option (List ℕ) → Bytes → Type 0
 Writing outcome.WriteFault held held' said = AppendsFront held held' said
 Writing _ held held' said = Appends held held' said
-
--- nothing of the input is left where it was read to its end
-abbrev pub LeftAs : Outcome → Option (List ℕ) → Type 0
-LeftAs outcome.Closed left = IsAtEnd left
-LeftAs _ left = Unit {0}
 
 -- a fault of the source or of the sink has its cause there
 abbrev pub IsCaused : Outcome → ℕ → ℕ → ℕ → ℕ → Type 0
@@ -170,8 +165,7 @@ pub record SessionParts (o : Outcome) (ahead ahead' left left' held held' : Opti
   pub nows : List ℕ
   pub unused : List ℕ
   pub took : Consumes left left' taken
-  pub ends : EndsAs o taken served ended ended'
-  pub read_all : LeftAs o left'
+  pub ends : EndsAs o taken served left' ended ended'
   pub readings : TakesAll ahead ahead' (nows ++ unused)
   pub used : UnusedAs o unused
   pub each : length nows ≡ asking served

@@ -2,7 +2,7 @@ ghost use Rattle.std.specs.Prelude.{◌≡◌, ◌≢◌, ◌≤◌, ◌<◌, �
 ghost use Rattle.resp_wire.specs.Reading.{IsUnfinished};
 ghost use Rattle.kv_outside.specs.Causes.{Rose};
 ghost use Rattle.kv_server.specs.declared.session.Outcome.{Outcome as HowItEnded};
-ghost use Rattle.kv_server.specs.Script.{is_script as is_script_line, is_folder as folder_test, status, outcome_by, is_write_fault, EndsReading, IsAnswered, HasFront};
+ghost use Rattle.kv_server.specs.Script.{is_script as is_script_line, is_folder as folder_test, status, outcome_by, is_write_fault, EndsReading, IsAnswered, HasFront, EndsBadly};
 ghost use Rattle.kv_server.specs.Session.{Pulls, Serves, Session, IsCaused};
 ghost use Rattle.kv_server.specs.Store.{state_of};
 
@@ -172,9 +172,11 @@ pub fn top_script<S: Source, K: Sink, F: Files, C: Clock>(
     ensures untouched { result ≡ 1 → (source.new ≡ source.old) × (sink.new ≡ sink.old) × (clock.new ≡ clock.old) }
 
     // Where the source tells its bytes: with status 0 the answers to all their requests were written, and the input
-    // ends behind the last of them; with status 6 the sink has a front of these answers.
+    // ends behind the last of them; with status 6 the sink has a front of these answers; status 7 comes only where the
+    // input is off the grammar or ends inside a request.
     ensures output { result ≡ 0 → IsAnswered (S.left source.old) (C.readings clock.old) (K.held sink.old) (K.held sink.new) }
     ensures front { result ≡ 6 → HasFront (S.left source.old) (C.readings clock.old) (K.held sink.old) (K.held sink.new) }
+    ensures protocol { result ≡ 7 → EndsBadly (S.left source.old) }
 
     // Which bytes were taken, which requests in them were answered, and what was written, by how the session ended.
     ensures session { result ≢ 1 → (outcome : HowItEnded) × (result ≡ status outcome)

@@ -1,4 +1,4 @@
-use Rattle.kv_server.proofs.Output.{closed_output, broken_output}
+use Rattle.kv_server.proofs.Output.{closed_output, broken_output, protocol_output}
 use Rattle.kv_server.proofs.top.top_script.Goals as goal
 
 pub returns-clause-output : goal.returns-clause-output
@@ -8,3 +8,7 @@ returns-clause-output g c =
 pub returns-clause-front : goal.returns-clause-front
 returns-clause-front g c =
     broken_output c.run.result c.status_of.result (g.C.Clock.readings c.args.clock.now) (g.C.Clock.readings c.run.new.clock) (g.S.Source.left c.args.source.now) (g.S.Source.left c.run.new.source) (g.K.Sink.held c.args.sink.now) (g.K.Sink.held c.run.new.sink) _ _ c.status_of.ensures c.run.ensures.session
+
+pub returns-clause-protocol : goal.returns-clause-protocol
+returns-clause-protocol g c =
+    protocol_output c.run.result c.status_of.result (g.C.Clock.readings c.args.clock.now) (g.C.Clock.readings c.run.new.clock) (g.S.Source.left c.args.source.now) (g.S.Source.left c.run.new.source) (g.K.Sink.held c.args.sink.now) (g.K.Sink.held c.run.new.sink) _ _ c.status_of.ensures c.run.ensures.session
