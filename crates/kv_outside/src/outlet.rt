@@ -26,7 +26,8 @@ impl Model for Outlet {
 impl Outlet {
     /// An outlet in which nothing waits.
     pub fn new(alloc: Global) -> Outlet
-        ensures { result.bytes ≡ [] }
+        ensures bytes { result.bytes ≡ [] }
+        ensures faults { result.faults ≡ 0 }
     {
         Outlet {
             bytes: Vec::new(alloc),
@@ -43,7 +44,8 @@ impl Outlet {
 
     /// Takes back what came after the first `len` bytes.
     pub fn truncate(&mut self, len: usize)
-        ensures { self.new.bytes ≡ take len self.old.bytes }
+        ensures bytes { self.new.bytes ≡ take len self.old.bytes }
+        ensures faults { self.new.faults ≡ self.old.faults }
     {
         self.bytes.truncate(len);
     }
@@ -52,6 +54,7 @@ impl Outlet {
     pub fn flush<K: Sink>(&mut self, sink: &mut K) -> Result<(), Failed>
         ensures written { Writes (K.held sink.old) (K.held sink.new) (K.faults sink.old) (K.faults sink.new) self.old.bytes result }
         ensures empty { self.new.bytes ≡ [] }
+        ensures faults { self.new.faults ≡ self.old.faults }
     {
         let written = write_all(&self.bytes, sink);
         self.bytes.clear();

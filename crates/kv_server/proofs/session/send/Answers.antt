@@ -9,10 +9,10 @@ returns-in-Ok g c = sends_waiting (g.K.Sink.held c.args.sink.now) (g.K.Sink.held
 pub returns-in_err-flush-in-Err : goal.returns-in_err-flush-in-Err
 returns-in_err-flush-in-Err g c =
     let p = err_from_is_err_and c.from_residual.result c.from_residual.ensures.1 in
-    let here = c.truncate.ensures ∙ ap (λ (n : ℕ). take n c.write_answer.new.sink.bytes) c.len-before.ensures ∙ taken_back _ _ _ c.in-Err.ensures.front in
+    let here = c.truncate.ensures.bytes ∙ ap (λ (n : ℕ). take n c.write_answer.new.sink.bytes) c.len-before.ensures ∙ taken_back _ _ _ c.in-Err.ensures.front in
     rw p.1 (sends_stuck (g.K.Sink.held c.args.sink.now) (g.K.Sink.held c.flush.new.sink) _ _ _ _ _ _ _ here c.in_err-flush-in-Err.ensures.written)
 
 pub returns-in_ok-flush-in-Err : goal.returns-in_ok-flush-in-Err
 returns-in_ok-flush-in-Err g c =
-    let here = c.truncate.ensures ∙ ap (λ (n : ℕ). take n c.write_answer.new.sink.bytes) c.len-before.ensures ∙ taken_back _ _ _ c.in-Err.ensures.front in
+    let here = c.truncate.ensures.bytes ∙ ap (λ (n : ℕ). take n c.write_answer.new.sink.bytes) c.len-before.ensures ∙ taken_back _ _ _ c.in-Err.ensures.front in
     sends_straight (g.K.Sink.held c.args.sink.now) (g.K.Sink.held c.flush.new.sink) (g.K.Sink.held c.write_answer-in-Err.new.sink) _ _ _ _ _ _ _ _ here c.in_ok-flush-in-Err.ensures.written c.flush.ensures.empty c.write_answer-in-Err.ensures

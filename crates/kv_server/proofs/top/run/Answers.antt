@@ -6,7 +6,7 @@ use Rattle.kv_server.proofs.top.run.Goals as goal
 
 pub loop-taken-init : goal.loop-taken-init
 loop-taken-init g c = record {
-  run = run_begins (g.C.Clock.readings c.args.clock.now) (g.S.Source.left c.args.source.now) (g.K.Sink.held c.args.sink.now) (state_of c.new-store.result) c.new-outlet.result.bytes c.new-reader.result c.new-store.ensures c.new-outlet.ensures c.new-reader.ensures;
+  run = run_begins (g.C.Clock.readings c.args.clock.now) (g.S.Source.left c.args.source.now) (g.K.Sink.held c.args.sink.now) (state_of c.new-store.result) c.new-outlet.result.bytes c.new-reader.result c.new-store.ensures c.new-outlet.ensures.bytes c.new-reader.ensures;
   within = omega arith;
   ended = refl;
   source = omega arith;
