@@ -45,7 +45,6 @@ measure() {
     make_input "$2" "$3" > "$work/input"
     python3 - "$1" "$4" "$work/input" "$program" <<'PYTHON'
 import os
-import resource
 import subprocess
 import sys
 import time
@@ -53,23 +52,35 @@ import time
 name, requests, path, program = sys.argv[1], int(sys.argv[2]), sys.argv[3], sys.argv[4]
 
 
-def run(words):
-    best, peak = None, 0
+def seconds(words):
+    best = None
     for _ in range(3):
         with open(path, "rb") as source, open(os.devnull, "wb") as sink:
             begin = time.monotonic()
-            process = subprocess.Popen(words, stdin=source, stdout=sink)
-            _, status, usage = os.wait4(process.pid, 0)
+            status = subprocess.call(words, stdin=source, stdout=sink)
             took = time.monotonic() - begin
-        best = took if best is None else min(best, took)
-        peak = usage.ru_maxrss
         if status != 0:
-            sys.exit("%s ended with status %d" % (words[0], os.waitstatus_to_exitcode(status)))
-    return best, peak
+            sys.exit("%s ended with status %d" % (words[0], status))
+        best = took if best is None else min(best, took)
+    return best
 
 
-cat, _ = run(["cat"])
-ours, peak = run([program, "script", "--dir", "."])
+# The greatest resident size, read once all input was taken and before its end.
+def peak_kilobytes(words):
+    with open(path, "rb") as source, open(os.devnull, "wb") as sink:
+        process = subprocess.Popen(words, stdin=subprocess.PIPE, stdout=sink)
+        process.stdin.write(source.read())
+        process.stdin.flush()
+        time.sleep(0.3)
+        with open("/proc/%d/status" % process.pid) as lines:
+            peak = next(int(line.split()[1]) for line in lines if line.startswith("VmHWM:"))
+        process.stdin.close()
+        process.wait()
+    return peak
+
+
+words = [program, "script", "--dir", "."]
+cat, ours, peak = seconds(["cat"]), seconds(words), peak_kilobytes(words)
 size = os.path.getsize(path)
 print("%-34s %9.1f MB %9.3f s %12.0f requests/s %9.1f MB peak   cat %.3f s" % (name, size / 1e6, ours, requests / ours, peak / 1024, cat))
 PYTHON
