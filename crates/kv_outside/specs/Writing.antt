@@ -1,8 +1,8 @@
 -- What a write of a text to a sink does.
-use Rattle.std.specs.Prelude.{◌≡◌, ℕ, ◌+◌, ◌<◌, ◌≤◌, zero, suc, List, [], ◌∷◌, ◌++◌, length, take, drop, get_or, Option, Some, None, Result, OnOk, OnErr, refl}
+use Rattle.std.specs.Prelude.{◌≡◌, ℕ, ◌+◌, ◌<◌, ◌≤◌, zero, suc, List, [], ◌∷◌, ◌++◌, length, take, drop, get_or, Option, Result, OnOk, OnErr, refl}
 use Rattle.std.specs.List.{flat_map}
 use Rattle.std.proofs.Common.{sym, ap, subst, ◌∙◌, append_assoc, arith}
-use Rattle.std.proofs.lemmas.List.{append-nil, take-append-drop}
+use Rattle.std.proofs.lemmas.List.{take-append-drop}
 use Rattle.std.specs.Io.KnownBytes.{Appends}
 use Rattle.kv_outside.specs.Causes.{Rose}
 use Rattle.kv_outside.specs.Sent.{sent_then}
@@ -27,6 +27,13 @@ pub front_then : (a b c : Option (List ℕ)) (text x rest whole : List ℕ) → 
 front_then a b c text x rest whole e p q =
     let parts : whole ≡ (x ++ q.0) ++ (q.1 ++ rest) = e ∙ ap (λ (v : List ℕ). x ++ (v ++ rest)) q.2 ∙ ap (λ (v : List ℕ). x ++ v) (append_assoc q.0 q.1 rest) ∙ sym (append_assoc x q.0 (q.1 ++ rest)) in
     (x ++ q.0, q.1 ++ rest, parts, sent_then a b c x q.0 p q.3)
+
+-- a front of a text is one of the text with more behind it
+pub front_on : (a b : Option (List ℕ)) (text rest : List ℕ) → AppendsFront a b text → AppendsFront a b (text ++ rest)
+front_on a b text rest p = (p.0, p.1 ++ rest, ap (λ (v : List ℕ). v ++ rest) p.2 ∙ append_assoc p.0 p.1 rest, p.3)
+
+pub front_after : (a b c : Option (List ℕ)) (x text : List ℕ) → Appends a b x → AppendsFront b c text → AppendsFront a c (x ++ text)
+front_after a b c x text p q = (x ++ q.0, q.1, ap (λ (v : List ℕ). x ++ v) q.2 ∙ sym (append_assoc x q.0 q.1), sent_then a b c x q.0 p q.3)
 
 -- the first bytes of a text
 pub front_of : (a b : Option (List ℕ)) (d : ℕ) (xs : List ℕ) → Appends a b (take d xs) → AppendsFront a b xs

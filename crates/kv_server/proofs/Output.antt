@@ -12,7 +12,7 @@ use Rattle.kv_server.specs.declared.session.Outcome.TheVariants as outcome
 use Rattle.kv_server.specs.Dialog.{after, asking, text}
 use Rattle.kv_server.specs.Session.{Session, IsBroken}
 use Rattle.kv_server.specs.Script.{status, first_readings, AreTold, OutputOf, FrontOf, IsAnswered, HasFront, EndsBadly}
-use Rattle.kv_server.proofs.Waiting.{front_on}
+use Rattle.kv_outside.specs.Writing.{front_on}
 use Rattle.kv_server.proofs.Turns.{asking-append, text-append}
 
 abbrev Known : Type 0

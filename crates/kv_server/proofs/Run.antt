@@ -20,9 +20,11 @@ use Rattle.resp_wire.specs.Holding.{Holds, holds_then, holds_fed, holds_unfinish
 use Rattle.kv_server.specs.declared.session.Stopped.{Stopped}
 use Rattle.kv_server.specs.declared.session.Stopped.TheVariants as stopped
 use Rattle.kv_server.specs.Dialog.{text}
-use Rattle.kv_server.specs.Session.{Pulls, Passes, Answered, Broken, Starved, Serves, Serving, Session, AreFirst, EndsAs, HasNoFault, IsCaused, UnusedAs, Writing, IsBroken}
+use Rattle.kv_server.specs.Serving.{Pulls, Passes, Answered, Broken, Starved, Serves, Serving}
+use Rattle.kv_server.specs.Session.{Session, AreFirst, EndsAs, HasNoFault, IsCaused, UnusedAs, Writing, IsBroken}
 use Rattle.kv_server.specs.Script.{EndsReading, is_write_fault, outcome_by}
-use Rattle.kv_server.proofs.Waiting.{passed_all, front_after}
+use Rattle.kv_outside.specs.Writing.{front_after}
+use Rattle.kv_server.proofs.Waiting.{passed_all}
 use Rattle.kv_server.proofs.Serving.{serving_none, answered_then, broken_then, starved_then}
 
 pub pull_failed : (l l' : Option (List ℕ)) (ended ended' : Bool) (f f' : ℕ) (bytes bytes' : Bytes) (room : ℕ) → Keeps l l' → Rose f f' → Pulls l l' ended ended' f f' bytes bytes' room (Err outcome.ReadFault)

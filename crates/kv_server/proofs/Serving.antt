@@ -11,7 +11,7 @@ use Rattle.resp_wire.specs.Holding.{Holds, holds_here, holds_one, holds_skip, ho
 use Rattle.kv_server.specs.declared.session.Stopped.{Stopped}
 use Rattle.kv_server.specs.declared.session.Stopped.TheVariants as stopped
 use Rattle.kv_server.specs.Dialog.{Answer, say, dialog, after, asking, text}
-use Rattle.kv_server.specs.Session.{Passes, TakesTurn, Answered, Broken, Starved, Answers, Serves, NextAs, Serving}
+use Rattle.kv_server.specs.Serving.{Passes, TakesTurn, Answered, Broken, Starved, Answers, Serves, NextAs, Serving}
 use Rattle.kv_server.proofs.Waiting.{passes_here, passes_then, passes_front}
 use Rattle.kv_server.proofs.Turns.{asking-append, text-append, after-append, one_said}
 

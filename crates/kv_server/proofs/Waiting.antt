@@ -3,10 +3,10 @@ use Rattle.std.proofs.Common.{◌≡◌, ℕ, List, [], ◌++◌, length, take, 
 use Rattle.std.proofs.lemmas.List.{append-nil, take_at}
 use Rattle.std.specs.Io.KnownBytes.{Appends}
 use Rattle.kv_outside.specs.Sent.{sent_then, nothing_sent}
-use Rattle.kv_outside.specs.Writing.{AppendsFront}
+use Rattle.kv_outside.specs.Writing.{AppendsFront, front_on, front_after}
 use Rattle.kv_outside.specs.Causes.{rose_since}
 use Rattle.kv_outside.specs.Writing.{Writes}
-use Rattle.kv_server.specs.Session.{Passes, Sends}
+use Rattle.kv_server.specs.Serving.{Passes, Sends}
 
 -- what waited was passed on, and then the text
 pub passed_then : (a b c : Option (List ℕ)) (waits waits' said : List ℕ) → Appends a b waits → Appends b c said → waits' ≡ [] → Passes a c waits waits' said
@@ -16,13 +16,6 @@ passed_then a b c waits waits' said p q none =
 -- what a write in memory that failed left is what waited before it
 pub taken_back : (waits mid said : List ℕ) → AppendsFront (Some waits) (Some mid) said → take (length waits) mid ≡ waits
 taken_back waits mid said p = ap (take (length waits)) p.3 ∙ take_at waits p.0 (length waits) refl
-
--- a front of what waited, and of the text behind it
-pub front_on : (a b : Option (List ℕ)) (text rest : List ℕ) → AppendsFront a b text → AppendsFront a b (text ++ rest)
-front_on a b text rest p = (p.0, p.1 ++ rest, ap (λ (v : List ℕ). v ++ rest) p.2 ∙ append_assoc p.0 p.1 rest, p.3)
-
-pub front_after : (a b c : Option (List ℕ)) (x text : List ℕ) → Appends a b x → AppendsFront b c text → AppendsFront a c (x ++ text)
-front_after a b c x text p q = (x ++ q.0, q.1, ap (λ (v : List ℕ). x ++ v) q.2 ∙ sym (append_assoc x q.0 q.1), sent_then a b c x q.0 p q.3)
 
 -- ---- one text behind another
 

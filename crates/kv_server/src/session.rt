@@ -1,7 +1,7 @@
 ghost use Rattle.std.specs.Prelude.{◌≡◌, ◌≤◌, []};
 ghost use Rattle.kv_outside.specs.Writing.{Writes};
 ghost use Rattle.kv_server.specs.Dialog.{say, refusal_line, name_text};
-ghost use Rattle.kv_server.specs.Session.{Sends, Turn, Answers, NextAs, Serves};
+ghost use Rattle.kv_server.specs.Serving.{Sends, Turn, Answers, NextAs, Serves};
 ghost use Rattle.kv_server.specs.declared.session.Stopped.TheVariants.{NoMem as no_mem, WriteFault as write_fault};
 ghost use Rattle.kv_server.specs.Store.{state_of};
 

@@ -3,7 +3,8 @@ ghost use Rattle.resp_wire.specs.Reading.{IsUnfinished};
 ghost use Rattle.kv_outside.specs.Causes.{Rose};
 ghost use Rattle.kv_server.specs.declared.session.Outcome.{Outcome as HowItEnded};
 ghost use Rattle.kv_server.specs.Script.{is_script as is_script_line, is_folder as folder_test, status, outcome_by, is_write_fault, EndsReading, IsAnswered, HasFront, EndsBadly};
-ghost use Rattle.kv_server.specs.Session.{Pulls, Serves, Session, IsCaused};
+ghost use Rattle.kv_server.specs.Serving.{Pulls, Serves};
+ghost use Rattle.kv_server.specs.Session.{Session, IsCaused};
 ghost use Rattle.kv_server.specs.Store.{state_of};
 
 use crate::session::{Outcome, Stopped, serve};

@@ -1,7 +1,6 @@
-use Rattle.std.proofs.Common.{◌≡◌, ◌+◌, ℕ, List, length, take, drop, arith, rules, subst}
+use Rattle.std.proofs.Common.{◌+◌, arith}
 use Rattle.std.proofs.lemmas.List.{length-drop}
 use Rattle.std.proofs.lemmas.Result.{err_from_is_err_and}
-use Rattle.std.specs.Io.KnownBytes.{Appends}
 use Rattle.kv_outside.specs.Sent.{sent_more, kept_then}
 use Rattle.kv_outside.specs.Writing.{front_of}
 use Rattle.kv_outside.specs.Causes.{rose_since}

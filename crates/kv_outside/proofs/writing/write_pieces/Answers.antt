@@ -1,4 +1,4 @@
-use Rattle.std.proofs.Common.{◌≡◌, ◌+◌, length, take, drop, get_or, arith, rules}
+use Rattle.std.proofs.Common.{◌+◌, take, drop, arith}
 use Rattle.std.proofs.lemmas.Result.{err_from_is_err_and}
 use Rattle.std.specs.List.{flat_map}
 use Rattle.kv_outside.specs.Writing.{front_then, pieces_at}

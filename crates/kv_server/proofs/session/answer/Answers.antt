@@ -1,6 +1,6 @@
 use Rattle.std.proofs.lemmas.Result.{err_from_is_err_and}
 use Rattle.kv_server.specs.Store.{state_of}
-use Rattle.kv_server.specs.Session.{Turn, Answers}
+use Rattle.kv_server.specs.Serving.{Turn, Answers}
 use Rattle.kv_server.proofs.Serving.{answered_one, broken_one, starved_one}
 use Rattle.kv_server.proofs.session.answer.Goals as goal
 

@@ -1,7 +1,7 @@
 use Rattle.std.proofs.Common.{arith}
 use Rattle.std.proofs.lemmas.Result.{err_from_is_err_and}
 use Rattle.kv_server.specs.Store.{state_of}
-use Rattle.kv_server.specs.Session.{Answers}
+use Rattle.kv_server.specs.Serving.{Answers}
 use Rattle.kv_server.proofs.Serving.{serving_none, serving_more, serves_all, reader_stops, answer_stops}
 use Rattle.kv_server.proofs.session.serve.Goals as goal
 

@@ -1,6 +1,6 @@
 use Rattle.std.proofs.Common.{◌≤◌, length}
 use Rattle.kv_server.specs.Store.{state_of}
-use Rattle.kv_server.specs.Session.{Serving}
+use Rattle.kv_server.specs.Serving.{Serving}
 use Rattle.kv_server.proofs.session.serve.Given as goal
 
 abbrev pub invariant-loop-words : goal.invariant-loop-words

@@ -3,7 +3,7 @@ use Rattle.std.proofs.lemmas.Result.{err_from_is_err_and}
 use Rattle.kv_outside.specs.Readings.{takes_none, takes_one}
 use Rattle.kv_server.specs.Store.{state_of}
 use Rattle.kv_server.specs.Words.{weight_of}
-use Rattle.kv_server.specs.Session.{Turn}
+use Rattle.kv_server.specs.Serving.{Turn}
 use Rattle.kv_server.proofs.Turns.{refused_turn, asked_turn}
 use Rattle.kv_server.proofs.session.take_turn.Goals as goal
 

@@ -1,5 +1,5 @@
 use Rattle.std.proofs.Common.{take}
-use Rattle.kv_server.specs.Session.{Pulls}
+use Rattle.kv_server.specs.Serving.{Pulls}
 use Rattle.kv_server.proofs.Run.{pulled, pull_failed}
 use Rattle.kv_server.proofs.top.pull.Goals as goal
 
