@@ -1,4 +1,4 @@
-ghost use Rattle.std.specs.Prelude.{◌≡◌, ◌≤◌, []};
+ghost use Rattle.std.specs.Prelude.{◌≡◌, ◌≤◌, ◌<◌, [], length, OnOk};
 ghost use Rattle.kv_outside.specs.Writing.{Writes};
 ghost use Rattle.kv_server.specs.Dialog.{say, refusal_line, name_text};
 ghost use Rattle.kv_server.specs.Serving.{Sends, Turn, Answers, NextAs, Serves};
@@ -102,7 +102,8 @@ fn send<K: Sink>(
     outlet: &mut Outlet,
     sink: &mut K,
 ) -> Result<(), Failed>
-    ensures { Sends (K.held sink.old) (K.held sink.new) outlet.old.bytes outlet.new.bytes (K.faults sink.old) (K.faults sink.new) (say answer.now) result }
+    ensures sent { Sends (K.held sink.old) (K.held sink.new) outlet.old.bytes outlet.new.bytes (K.faults sink.old) (K.faults sink.new) (say answer.now) result }
+    ensures little { OnOk result (length outlet.new.bytes < FULL) }
 {
     let before = outlet.len();
     match write_answer(answer, outlet) {
@@ -115,9 +116,10 @@ fn send<K: Sink>(
     }
 }
 
-/// Passes on what waits, where it is much.
+/// Passes on what waits, where it is much: so little waits afterwards.
 fn pass_on<K: Sink>(outlet: &mut Outlet, sink: &mut K) -> Result<(), Failed>
-    ensures { Sends (K.held sink.old) (K.held sink.new) outlet.old.bytes outlet.new.bytes (K.faults sink.old) (K.faults sink.new) [] result }
+    ensures sent { Sends (K.held sink.old) (K.held sink.new) outlet.old.bytes outlet.new.bytes (K.faults sink.old) (K.faults sink.new) [] result }
+    ensures little { OnOk result (length outlet.new.bytes < FULL) }
 {
     if outlet.len() < FULL {
         return Ok(());

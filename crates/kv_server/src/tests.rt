@@ -333,3 +333,24 @@ fn a_pipeline_goes_out_in_few_writes(rt: HostRuntime) -> Result<(), Fail> {
     assert_eq!(rt; ran.writes, 1);
     Ok(())
 }
+
+#[test]
+fn long_values_go_out_whole(rt: HostRuntime) -> Result<(), Fail> {
+    let alloc = rt.alloc();
+    let value = vec![in alloc; b'v'; 100_000]?;
+    let mut input = Vec::from_slice(alloc, b"*3\r\n$3\r\nSET\r\n$1\r\na\r\n$100000\r\n")?;
+    input.extend_from_slice(&value)?;
+    input.extend_from_slice(b"\r\n")?;
+    let mut output = Vec::from_slice(alloc, b"+OK\r\n")?;
+    for _ in 0..3 {
+        input.extend_from_slice(b"*2\r\n$3\r\nGET\r\n$1\r\na\r\n")?;
+        output.extend_from_slice(b"$100000\r\n")?;
+        output.extend_from_slice(&value)?;
+        output.extend_from_slice(b"\r\n")?;
+    }
+    let ran = run_in_pieces(alloc, &input, 65536)?;
+    assert_eq!(rt; ran.status, 0);
+    assert!(rt; ran.output.as_slice() == output.as_slice());
+    assert_eq!(rt; ran.writes, 3);
+    Ok(())
+}

@@ -16,11 +16,11 @@ unfolding Turn Answers
 returns-in_err-send-clause-said g c =
     let p = err_from_is_err_and c.from_residual-in_err-send.result c.from_residual-in_err-send.ensures.1 in
     rw (p.1, p.2) (
-      broken_one (state_of c.args.store.now) (state_of c.take_turn.new.store) (g.C.Clock.readings c.args.clock.now) (g.C.Clock.readings c.take_turn.new.clock) (g.K.Sink.held c.args.sink.now) (g.K.Sink.held c.send.new.sink) c.args.outlet.now.bytes c.args.words c.in_ok-said.said c.in_ok-said.ensures c.in_err-send.ensures.front,
-      c.in_err-send.ensures.failed,
+      broken_one (state_of c.args.store.now) (state_of c.take_turn.new.store) (g.C.Clock.readings c.args.clock.now) (g.C.Clock.readings c.take_turn.new.clock) (g.K.Sink.held c.args.sink.now) (g.K.Sink.held c.send.new.sink) c.args.outlet.now.bytes c.args.words c.in_ok-said.said c.in_ok-said.ensures c.in_err-send.ensures.sent.front,
+      c.in_err-send.ensures.sent.failed,
     )
 
 pub returns-clause-said : goal.returns-clause-said
 unfolding Turn Answers
 returns-clause-said g c =
-    answered_one (state_of c.args.store.now) (state_of c.take_turn.new.store) (g.C.Clock.readings c.args.clock.now) (g.C.Clock.readings c.take_turn.new.clock) (g.K.Sink.held c.args.sink.now) (g.K.Sink.held c.send.new.sink) c.args.outlet.now.bytes c.send.new.outlet.bytes c.args.words c.in_ok-said.said c.in_ok-said.ensures c.in_ok-send.ensures.all
+    answered_one (state_of c.args.store.now) (state_of c.take_turn.new.store) (g.C.Clock.readings c.args.clock.now) (g.C.Clock.readings c.take_turn.new.clock) (g.K.Sink.held c.args.sink.now) (g.K.Sink.held c.send.new.sink) c.args.outlet.now.bytes c.send.new.outlet.bytes c.args.words c.in_ok-said.said c.in_ok-said.ensures c.in_ok-send.ensures.sent.all
