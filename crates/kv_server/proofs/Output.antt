@@ -1,8 +1,9 @@
 -- What a session says of an input that is told.
-use Rattle.std.proofs.Common.{◌≡◌, ◌+◌, ℕ, zero, suc, List, [], ◌∷◌, ◌++◌, length, replicate, Bool, Option, Some, None, refl, sym, ap, subst, ◌∙◌, append_assoc, arith}
+use Rattle.std.proofs.Common.{◌≡◌, ◌+◌, ℕ, zero, suc, List, [], ◌∷◌, ◌++◌, length, replicate, Bool, Option, Some, None, refl, sym, ap, subst, ◌∙◌, append_assoc, arith, ◌⊎◌, inl, inr, ◌^◌, ◌<◌}
 use Rattle.std.proofs.lemmas.List.{append-nil, length-append, length-replicate}
 use Rattle.kv_base.specs.Map.{Bytes}
 use Rattle.kv_outside.specs.Readings.{next_reading, later_readings, TakesAll}
+use Rattle.kv_outside.specs.Causes.{Rose}
 use Rattle.kv_outside.specs.Writing.{AppendsFront}
 use Rattle.redis_model.specs.Machine.{start}
 use Rattle.resp_wire.specs.Grammar.{End, Whole, Open, Fault, requests}
@@ -10,8 +11,8 @@ use Rattle.resp_wire.specs.Holding.{requests_go_on, faults_stay}
 use Rattle.kv_server.specs.declared.session.Outcome.{Outcome}
 use Rattle.kv_server.specs.declared.session.Outcome.TheVariants as outcome
 use Rattle.kv_server.specs.Dialog.{after, asking, text}
-use Rattle.kv_server.specs.Session.{Session, IsBroken}
-use Rattle.kv_server.specs.Script.{status, first_readings, AreTold, OutputOf, FrontOf, IsAnswered, HasFront, EndsBadly}
+use Rattle.kv_server.specs.Session.{Session, IsBroken, IsCaused}
+use Rattle.kv_server.specs.Script.{status, first_readings, AreTold, OutputOf, FrontOf, IsAnswered, HasFront, EndsBadly, IsWhole}
 use Rattle.kv_outside.specs.Writing.{front_on}
 use Rattle.kv_server.proofs.Turns.{asking-append, text-append}
 
@@ -138,3 +139,20 @@ protocol_output outcome.NoMem n a b l l' h i e e' is p seven = absurd (omega ari
 protocol_output outcome.ReadFault n a b l l' h i e e' is p seven = absurd (omega arith)
 protocol_output outcome.WriteFault n a b l l' h i e e' is p seven = absurd (omega arith)
 protocol_output outcome.Spent n a b l l' h i e e' is p seven = absurd (omega arith)
+
+-- an input that is whole is answered, unless the source or the sink failed or memory ran out
+pub whole_is_answered : (o : Outcome) (n : ℕ) (a b l l' h i : Known) (e e' : Bool) (f f' k k' : ℕ) → n ≡ status o → Session o a b l l' h i e e' → IsCaused o f f' k k' → IsWhole l → (Rose f f' → ⊥) → (Rose k k' → ⊥) → (n ≡ 0) ⊎ (n ≡ 4)
+unfolding Session
+whole_is_answered outcome.Closed n a b l l' h i e e' f f' k k' is p c whole read written = inl is
+whole_is_answered outcome.NoMem n a b l l' h i e e' f f' k k' is p c whole read written = inr is
+whole_is_answered outcome.ReadFault n a b l l' h i e e' f f' k k' is p c whole read written = absurd (read c)
+whole_is_answered outcome.WriteFault n a b l l' h i e e' f f' k k' is p c whole read written = absurd (written c)
+whole_is_answered outcome.Protocol n a b None l' h i e e' f f' k k' is p c whole read written = absurd whole
+whole_is_answered outcome.Protocol n a b (Some input) l' h i e e' f f' k k' is p c whole read written = absurd (protocol_output outcome.Protocol 7 a b (Some input) l' h i e e' refl p refl whole.0)
+whole_is_answered outcome.Spent n a b None l' h i e e' f f' k k' is p c whole read written = absurd whole
+whole_is_answered outcome.Spent n a b (Some input) None h i e e' f f' k k' is p c whole read written = absurd p.took
+whole_is_answered outcome.Spent n a b (Some input) (Some left) h i e e' f f' k k' is p c whole read written =
+    let full : length p.taken ≡ 2 ^ 40 = p.ends.1 in
+    let all : length input ≡ length p.taken + length left = ap length p.took ∙ length-append p.taken left in
+    let no : ⊥ = omega (arith, whole.1, full, all) in
+    absurd no

@@ -1,5 +1,5 @@
 -- What the script program promises.
-use Rattle.std.specs.Prelude.{◌≡◌, ◌≢◌, ℕ, zero, suc, Option, Some, None, length, Bool, true, false, not, ◌&&◌, ◌==◌, List, [], ◌∷◌, codes, Result, Err}
+use Rattle.std.specs.Prelude.{◌≡◌, ◌≢◌, ℕ, zero, suc, Option, Some, None, length, Bool, true, false, not, ◌&&◌, ◌==◌, List, [], ◌∷◌, codes, Result, Err, ◌<◌, ◌^◌}
 use Rattle.std.specs.Str.{bytes_eq}
 use Rattle.std.specs.Io.KnownBytes.{Appends}
 use Rattle.kv_base.specs.Map.{Bytes}
@@ -87,3 +87,8 @@ HasFront (Some input) ahead held held' = FrontOf ahead held held' (requests inpu
 abbrev pub EndsBadly : Option (List ℕ) → Type 0
 EndsBadly None = Unit {0}
 EndsBadly (Some input) = (requests input).1 ≢ Whole
+
+-- The input is told, ends between requests, and has fewer bytes than are taken from one source.
+abbrev pub IsWhole : Option (List ℕ) → Type 0
+IsWhole None = ⊥
+IsWhole (Some input) = ((requests input).1 ≡ Whole) × (length input < 2 ^ 40)

@@ -1,8 +1,8 @@
-ghost use Rattle.std.specs.Prelude.{◌≡◌, ◌≢◌, ◌≤◌, ◌<◌, ◌↔◌, [], map, length, false, OnOk, string_bytes};
+ghost use Rattle.std.specs.Prelude.{◌≡◌, ◌≢◌, ◌⊎◌, ◌≤◌, ◌<◌, ◌↔◌, [], map, length, false, OnOk, string_bytes};
 ghost use Rattle.resp_wire.specs.Reading.{IsUnfinished};
 ghost use Rattle.kv_outside.specs.Causes.{Rose};
 ghost use Rattle.kv_server.specs.declared.session.Outcome.{Outcome as HowItEnded};
-ghost use Rattle.kv_server.specs.Script.{is_script as is_script_line, is_folder as folder_test, status, outcome_by, is_write_fault, EndsReading, IsAnswered, HasFront, EndsBadly};
+ghost use Rattle.kv_server.specs.Script.{is_script as is_script_line, is_folder as folder_test, status, outcome_by, is_write_fault, EndsReading, IsAnswered, HasFront, EndsBadly, IsWhole};
 ghost use Rattle.kv_server.specs.Serving.{Pulls, Serves};
 ghost use Rattle.kv_server.specs.Session.{Session, IsCaused};
 ghost use Rattle.kv_server.specs.Store.{state_of};
@@ -182,6 +182,11 @@ pub fn top_script<S: Source, K: Sink, F: Files, C: Clock>(
     // Which bytes were taken, which requests in them were answered, and what was written, by how the session ended.
     ensures session { result ≢ 1 → (outcome : HowItEnded) × (result ≡ status outcome)
         × Session outcome (C.readings clock.old) (C.readings clock.new) (S.left source.old) (S.left source.new) (K.held sink.old) (K.held sink.new) (S.ended source.old) (S.ended source.new) }
+
+    // An input that ends between requests is answered, unless the source or the sink failed or memory ran out.
+    ensures whole { (result ≢ 1) → IsWhole (S.left source.old)
+        → ¬ Rose (S.faults source.old) (S.faults source.new) → ¬ Rose (K.faults sink.old) (K.faults sink.new)
+        → (result ≡ 0) ⊎ (result ≡ 4) }
     ensures input_fault { result ≡ 5 → Rose (S.faults source.old) (S.faults source.new) }
     ensures output_fault { result ≡ 6 → Rose (K.faults sink.old) (K.faults sink.new) }
     ensures files { files.new ≡ files.old }
