@@ -11,14 +11,14 @@ use Rattle.kv_base.proofs.DigitLists.{numerals, read_on_is}
 
 -- ---- plain digits are the decimal of their number
 
-decimal_is : (ds : Bytes) → IsPlain ds → value_of_digits ds < 2 ^ 64 → decimal (value_of_digits ds) ≡ ds
+pub decimal_is : (ds : Bytes) → IsPlain ds → value_of_digits ds < 2 ^ 64 → decimal (value_of_digits ds) ≡ ds
 decimal_is ds p h = rw (read_on_is 0 ds) (decimal-digits_value numerals ds p.0 p.1 p.2 (rw (read_on_is 0 ds) at h))
 
 first_zero : (n : ℕ) → n < 2 ^ 64 → get_or (decimal n) 0 0 ≡ 48 → length (decimal n) ≡ 1
 first_zero zero h e = ap length (decimal_digit 0 (omega arith))
 first_zero (suc n) h e = let no : ⊥ = omega (arith, first_decimal (suc n) (omega arith) h) in absurd no
 
-decimal_plain : (n : ℕ) → n < 2 ^ 64 → IsPlain (decimal n)
+pub decimal_plain : (n : ℕ) → n < 2 ^ 64 → IsPlain (decimal n)
 decimal_plain n h = (digits_decimal numerals n h, decimal_nonempty n h, first_zero n h)
 
 -- ---- the number whose text it is, if it fits

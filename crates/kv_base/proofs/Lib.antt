@@ -1,3 +1,4 @@
 mod DigitLists
 mod IntegerTexts
 mod ScoreTexts
+mod UnsignedTexts

@@ -1,4 +1,17 @@
 pub mod Digits
+pub mod FieldLaws
+pub mod Fields
+pub mod FormatExamples
+pub mod Hash
+pub mod Inversions
 pub mod Map
+pub mod MetaValueLaws
+pub mod MetaValues
+pub mod Name
 pub mod Number
+pub mod RawKeyLaws
+pub mod RawKeys
+pub mod RowLaws
+pub mod RowRefs
 pub mod Score
+pub mod Unsigned

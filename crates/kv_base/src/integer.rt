@@ -22,7 +22,7 @@ pub fn read_int(text: &[u8]) -> Option<i64>
 }
 
 /// The number of these digits: at least one, with no zero in front of another.
-fn plain_value(text: &[u8]) -> Option<u64>
+pub fn plain_value(text: &[u8]) -> Option<u64>
     ensures { SomeIff result (IsPlain text.now × (value_of_digits text.now < 2 ^ 64)) (value_of_digits text.now) }
 {
     if !is_plain(text) {

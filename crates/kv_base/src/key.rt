@@ -49,6 +49,13 @@ impl Key {
         self.blob.bytes()
     }
 
+    /// The bytes as a blob, which stays the key's.
+    pub fn blob(&self) -> &Blob
+        ensures { result.now ≡ self.now }
+    {
+        &self.blob
+    }
+
     /// The bytes as a blob, which takes no memory.
     pub fn into_blob(self) -> Blob
         ensures { result ≡ self }

@@ -17,3 +17,38 @@ pub struct TableId {
     pub run: u64,
     pub part: u64,
 }
+
+impl FileName {
+    ghost use Rattle.std.specs.Prelude.{◌≡◌};
+    ghost use Rattle.kv_base.specs.Name.{same_name};
+
+    /// Do both name one file?
+    pub fn is(self, other: FileName) -> bool
+        ensures { result ≡ same_name self other }
+    {
+        match (self, other) {
+            (FileName::SlotA, FileName::SlotA) => true,
+            (FileName::SlotB, FileName::SlotB) => true,
+            (FileName::Segment(own), FileName::Segment(others)) => own == others,
+            (FileName::Table(own), FileName::Table(others)) => {
+                own.run == others.run && own.part == others.part
+            }
+            _ => false,
+        }
+    }
+}
+
+#[cfg(test)]
+mod tests {
+    use super::*;
+
+    #[test]
+    fn tells_names_apart(rt: HostRuntime) {
+        let table = FileName::Table(TableId { run: 7, part: 1 });
+        assert!(rt; table.is(table));
+        assert!(rt; !table.is(FileName::Table(TableId { run: 7, part: 0 })));
+        assert!(rt; FileName::Segment(3).is(FileName::Segment(3)));
+        assert!(rt; !FileName::Segment(3).is(FileName::Segment(4)));
+        assert!(rt; !FileName::SlotA.is(FileName::SlotB));
+    }
+}
