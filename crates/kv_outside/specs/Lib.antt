@@ -6,3 +6,7 @@ pub mod Sent
 pub mod Taken
 pub mod Writing
 pub mod Outlet
+pub mod Files
+pub mod Disk
+pub mod Told
+pub mod Runs
