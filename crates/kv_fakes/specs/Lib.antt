@@ -1,0 +1,8 @@
+pub mod Tally
+pub mod Source
+pub mod Sink
+pub mod Past
+pub mod Crash
+pub mod Images
+pub mod Content
+pub mod MemDisk
