@@ -1,0 +1,5 @@
+pub mod Calls
+pub mod Bytes
+pub mod Keeping
+pub mod Reading
+pub mod Filling

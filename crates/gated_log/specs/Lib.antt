@@ -1,0 +1,7 @@
+pub mod Faults
+pub mod Gated
+pub mod Records
+pub mod States
+pub mod Steps
+pub mod Still
+pub mod Walk
