@@ -3,3 +3,4 @@ mod Runs
 mod EdgeRuns
 mod TouchedRuns
 mod RenderRuns
+mod StripeBits

@@ -22,3 +22,8 @@ pub mod Elsewhere
 pub mod Touched
 pub mod TouchedLaws
 pub mod MachineLaws
+pub mod Stripes
+pub mod StripesLaws
+pub mod Built
+pub mod DeskState
+pub mod Desk

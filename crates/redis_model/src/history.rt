@@ -47,3 +47,19 @@ pub enum Step {
     /// A mark of a background job. It changes nothing and has no reply.
     Job(u32, JobKind, JobMark),
 }
+
+/// What is known of an entry besides.
+#[derive(Drop)]
+pub enum Note {
+    /// Nothing.
+    Bare,
+    /// The sequence of the batch that a call or a transaction appended to the log.
+    Batch(u64),
+}
+
+/// A place of a history: an entry, and what is known of it besides.
+#[derive(Drop)]
+pub struct Place {
+    pub what: Step,
+    pub note: Note,
+}

@@ -2,15 +2,18 @@ ghost use Rattle.std.specs.Prelude.{◌≡◌, ℕ, IsTrue, IsFalse, All, List, 
 ghost use Rattle.std.specs.List.{IsDistinct};
 ghost use Rattle.std.specs.List.Sorted.{IsNonDecreasing};
 ghost use Rattle.kv_base.specs.Map.{Bytes, get, same};
+ghost use Rattle.kv_base.specs.Hash.{stripe};
 ghost use Rattle.redis_model.specs.declared.command.Command.{Command};
 ghost use Rattle.redis_model.specs.declared.history.Step.{Step};
 ghost use Rattle.redis_model.specs.declared.reply.Reply.{Reply};
+ghost use Rattle.redis_model.specs.declared.stripes.Stripes.{Stripes};
 ghost use Rattle.redis_model.specs.Value.{RedisMap};
 ghost use Rattle.redis_model.specs.Keys.{among};
 ghost use Rattle.redis_model.specs.About.{writes, keys_of};
 ghost use Rattle.redis_model.specs.Apply.{apply, due};
 ghost use Rattle.redis_model.specs.Limits.{IsWithin, HasDueTime, IsDue};
 ghost use Rattle.redis_model.specs.Touched.{touched};
+ghost use Rattle.redis_model.specs.Stripes.{contains, has_stripe};
 ghost use Rattle.redis_model.specs.Machine.{State, moments, run};
 ghost use Rattle.redis_model.specs.Valid.{IsRedisMap, SetsShortValues};
 ghost use Rattle.redis_model.specs.Render.{render, spelled};
@@ -29,6 +32,17 @@ pub fn reading_touches_nothing()
 pub fn touched_keys_are_named()
     ensures { (m : RedisMap) (t : ℕ) (c : Command) (k : Bytes) →
         IsTrue (among (touched m t c) k) → IsTrue (among (keys_of c) k) }
+{}
+
+/// A command has the stripe of each key that it touches. So whoever holds its stripes is alone in touching these keys.
+pub fn touched_keys_have_their_stripes()
+    ensures { (m : RedisMap) (t : ℕ) (c : Command) (k : Bytes) →
+        IsTrue (among (touched m t c) k) → IsTrue (has_stripe (keys_of c) (stripe k)) }
+{}
+
+/// Two sets that contain the same stripes are equal. So what is said of `Command::stripes` leaves one answer.
+pub fn sets_of_the_same_stripes_are_equal()
+    ensures { (s t : Stripes) → ((b : ℕ) → contains s b ≡ contains t b) → s ≡ t }
 {}
 
 /// No key stands twice among those that a command touches.

@@ -1,0 +1,134 @@
+-- What a desk answers to a call, and what its caller sees of the history.
+use Rattle.std.specs.Prelude.{◌≡◌, ◌≢◌, ◌≤◌, ◌<◌, ◌-◌, ◌^◌, ◌⊎◌, ℕ, Bool, true, false, if◌then◌else◌, is_some, IsFalse, List, [], ◌∷◌, ◌++◌, map, Some, Result, Ok, Err}
+use Rattle.kv_outside.specs.Causes.{Rose}
+use Rattle.kv_outside.specs.Readings as readings
+use Rattle.redis_model.specs.declared.reply.Reply.{Reply}
+use Rattle.redis_model.specs.declared.command.Command.{Command}
+use Rattle.redis_model.specs.declared.command.Cmds.TheVariants.{One}
+use Rattle.redis_model.specs.declared.history.Step.{Step}
+use Rattle.redis_model.specs.declared.history.Step.TheVariants.{Tick, Call, PinnedRead, PinnedRefused, Job}
+use Rattle.redis_model.specs.declared.history.Place.{Place}
+use Rattle.redis_model.specs.declared.history.JobMark.TheVariants.{Begun, Done, Dropped}
+use Rattle.redis_model.specs.declared.desk.DeskFault.{DeskFault}
+use Rattle.redis_model.specs.declared.desk.DeskFault.TheVariants as fault
+use Rattle.redis_model.specs.About.{writes}
+use Rattle.redis_model.specs.DeskState.{DeskState}
+use Rattle.redis_model.specs.Machine.{State, pin_of, step, run}
+use Rattle.redis_model.specs.Legal.{IsLegal, calls_of, jobs_of}
+
+-- ---- places
+
+abbrev pub steps_of : List Place → List Step
+steps_of places = map (λ p. p.what) places
+
+abbrev pub state_at : State → List Place → State
+state_at first seen = run first (steps_of seen)
+
+-- the own entries of a caller, but its jobs
+abbrev pub mine : ℕ → List Place → List Step
+mine caller places = calls_of caller (steps_of places)
+
+abbrev pub has_pin : State → ℕ → Bool
+has_pin s caller = is_some (pin_of s caller)
+
+-- what holds of the places that a caller has seen
+pub record IsSeen (caller : ℕ) (pinned : Bool) (first : State) (seen : List Place) : Type 0 where
+  pub legal : IsLegal first (steps_of seen)
+  pub pin : has_pin (state_at first seen) caller ≡ pinned
+
+-- ---- a call in the history
+
+-- the entry of a command, of a caller with a pin or without one
+abbrev pub entry_of : Bool → ℕ → ℕ → Command → Step
+entry_of false now caller c = Call now caller c
+entry_of true now caller c = if writes c then PinnedRefused now caller (One c) else PinnedRead now caller c
+
+-- each job that begins ends before the caller's next one
+abbrev pub AreEnded : List Step → Type 0
+AreEnded [] = Unit {0}
+AreEnded (Job caller kind Begun ∷ []) = ⊥
+AreEnded (Job caller kind Begun ∷ Job by other Done ∷ es) = (other ≡ kind) × AreEnded es
+AreEnded (Job caller kind Begun ∷ Job by other Dropped ∷ es) = (other ≡ kind) × AreEnded es
+AreEnded (Job caller kind Begun ∷ e ∷ es) = ⊥
+AreEnded (e ∷ es) = AreEnded es
+
+-- what a caller has seen goes on, and of its own jobs in the rest none is left open
+pub record Follows (caller : ℕ) (seen after : List Place) : Type 0 where
+  pub added : List Place
+  pub grown : after ≡ seen ++ added
+  pub ended : AreEnded (jobs_of caller (steps_of added))
+
+-- of one's own: nothing, or a tick at this reading
+abbrev pub IsTicked : ℕ → ℕ → List Step → Type 0
+IsTicked caller now es = (es ≡ []) ⊎ (es ≡ Tick now caller ∷ [])
+
+-- The call stands in the history once. It has before it all that was seen, entries of others, and at most a tick of its
+-- own. Behind it may come jobs of its own and entries of others. The reply is the machine's there.
+pub record Entered (caller : ℕ) (first : State) (seen : List Place) (now : ℕ) (c : Command) (reply : Reply) (after : List Place) : Type 0 where
+  pub before : List Place
+  pub own : Place
+  pub behind : List Place
+  pub grown : after ≡ (seen ++ before) ++ own ∷ behind
+  pub ticked : IsTicked caller now (mine caller before)
+  pub idle : jobs_of caller (steps_of before) ≡ []
+  pub is : own.what ≡ entry_of (has_pin (state_at first seen) caller) now caller c
+  pub once : mine caller behind ≡ []
+  pub answered : (step (state_at first (seen ++ before)) own.what).0 ≡ Some reply
+
+-- nothing, or an entry that changes no key: a tick, or that of a command that only reads, whose reply was withheld
+abbrev pub IsWithheld : ℕ → Bool → ℕ → Command → List Step → Type 0
+IsWithheld caller pinned now c [] = Unit {0}
+IsWithheld caller pinned now c (e ∷ []) = (e ≡ Tick now caller) ⊎ ((e ≡ entry_of pinned now caller c) × IsFalse (writes c))
+IsWithheld caller pinned now c (e ∷ f ∷ es) = ⊥
+
+-- A call that failed has at most one entry, which changes no key.
+pub record Withheld (caller : ℕ) (first : State) (seen : List Place) (now : ℕ) (c : Command) (after : List Place) : Type 0 where
+  pub added : List Place
+  pub grown : after ≡ seen ++ added
+  pub own : IsWithheld caller (has_pin (state_at first seen) caller) now c (mine caller added)
+
+abbrev pub Leaves : ℕ → State → List Place → ℕ → Command → Result Reply DeskFault → List Place → Type 0
+Leaves caller first seen now c (Ok reply) after = Entered caller first seen now c reply after
+Leaves caller first seen now c (Err e) after = Withheld caller first seen now c after
+
+-- ---- why a call fails
+
+abbrev pub last_sequence : ℕ
+last_sequence = 2 ^ 42 - 2
+
+abbrev pub longest_body : ℕ
+longest_body = 2 ^ 32 - 1
+
+-- A fault of the files comes where the count rose, damage at a place that is off its grammar. No sequence is left just
+-- where there is something to write at the last one, and what is to be written is too big just where it is longer than
+-- a record can be.
+abbrev pub HasReason : ℕ → DeskState → Result Reply DeskFault → Type 0
+HasReason before desk (Ok reply) = (desk.body ≤ longest_body) × (0 < desk.body → desk.sequence < last_sequence)
+HasReason before desk (Err fault.IoError) = Rose before desk.faults
+HasReason before desk (Err fault.NoMem) = Unit {0}
+HasReason before desk (Err (fault.Damaged file place)) = desk.off file place
+HasReason before desk (Err fault.SeqFull) = (0 < desk.body) × (desk.sequence ≡ last_sequence)
+HasReason before desk (Err fault.TooBig) = (longest_body < desk.body) × (desk.sequence ≢ last_sequence)
+HasReason before desk (Err fault.Busy) = ⊥
+
+-- ---- the calls
+
+-- a reading was taken, and all else is as it was
+pub record TakesReading (old new : DeskState) (now : ℕ) : Type 0 where
+  pub reading : readings.TakesReading old.readings new.readings now
+  pub last : new.last ≡ Some now
+  pub stands : (first : State) (seen : List Place) → old.stands first seen → new.stands first seen
+  pub number : new.number ≡ old.number
+  pub pinned : new.pinned ≡ old.pinned
+  pub faults : new.faults ≡ old.faults
+
+-- A command was answered: where the desk stood for a history, it stands for one that goes on by the call.
+pub record TakesCall (old new : DeskState) (now : ℕ) (c : Command) (result : Result Reply DeskFault) : Type 0 where
+  pub history : (first : State) (seen : List Place) → old.stands first seen
+      → (after : List Place) × new.stands first after × Follows old.number seen after × Leaves old.number first seen now c result after
+  pub reason : HasReason old.faults new result
+  pub later : old.faults ≤ new.faults
+  pub readings : new.readings ≡ old.readings
+  pub last : new.last ≡ old.last
+  pub number : new.number ≡ old.number
+  pub pinned : new.pinned ≡ old.pinned

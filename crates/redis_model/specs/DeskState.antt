@@ -1,0 +1,22 @@
+-- What is told of a desk.
+use Rattle.std.specs.Prelude.{ℕ, Bool, List, Option}
+use Rattle.kv_base.specs.declared.name.FileName.{FileName}
+use Rattle.redis_model.specs.declared.history.Place.{Place}
+use Rattle.redis_model.specs.Machine.{State}
+
+pub record DeskState : Type 1 where
+  -- the start states and the histories that it stands for, as far as its caller has seen them
+  pub stands : State → List Place → Type 0
+  -- the caller's number in these histories, and whether it has a pin
+  pub number : ℕ
+  pub pinned : Bool
+  -- the readings of the clock that are ahead, where they are told, and the one that was answered last
+  pub readings : Option (List ℕ)
+  pub last : Option ℕ
+  -- how often a call to the outside has failed
+  pub faults : ℕ
+  -- of the last call: the places that are off their grammar, the last sequence that it met, and the length in bytes of
+  -- the body that it planned to write, 0 where there was nothing to write
+  pub off : FileName → ℕ → Type 0
+  pub sequence : ℕ
+  pub body : ℕ
