@@ -1,0 +1,13 @@
+pub mod Judged
+pub mod Steps
+pub mod Walk
+pub mod FlagSteps
+pub mod Pairs
+pub mod Finding
+pub mod Fitting
+pub mod Right
+pub mod Good
+pub mod GoodOptions
+pub mod Families
+pub mod Parsing
+pub mod Asked

@@ -1,0 +1,46 @@
+-- The words of a request as its first word and those behind it.
+use Rattle.std.proofs.Common.{◌≡◌, ℕ, List, [], ◌∷◌, Option, Some, None, Result, Ok, Err, ap, sym, ◌∙◌}
+use Rattle.std.specs.Prelude.{slice_get}
+use Rattle.std.specs.List.{remove}
+use Rattle.kv_base.specs.Map.{Bytes}
+use Rattle.cmd_words.specs.Words.{lower, weight_of}
+use Rattle.cmd_words.specs.Names.{named}
+use Rattle.cmd_words.specs.Reading.{Tells}
+use Rattle.cmd_words.specs.Table.{read}
+use Rattle.cmd_words.specs.Parsed.{told, by_name, behind, parsed_as, IsParsed}
+use Rattle.cmd_words.specs.declared.name.Name.{Name}
+use Rattle.cmd_words.specs.declared.fault.FaultKind.{FaultKind}
+use Rattle.cmd_words.specs.declared.fault.FaultKind.TheVariants as wrong
+use Rattle.cmd_words.specs.declared.fault.CommandFault.{CommandFault}
+use Rattle.cmd_words.specs.declared.fault.CommandFault.TheVariants as fault
+use Rattle.cmd_words.specs.declared.parsed.Parsed.{Parsed}
+
+-- the words are a first one and the others
+pub record Parts (words : List Bytes) (first : Bytes) (rest : List Bytes) : Type 0 where
+  pub whole : words ≡ first ∷ rest
+
+pub parts : (words rest : List Bytes) (first : Bytes) → slice_get words 0 ≡ Some first → rest ≡ remove words 0 → Parts words first rest
+parts [] rest first h e = cc
+parts (w ∷ words) rest first h e = record { whole = cc }
+
+behind_is : (words rest : List Bytes) (first : Bytes) → Parts words first rest → parsed_as words ≡ behind first rest (named first)
+unfolding parsed_as
+behind_is words rest first p = ap parsed_as p.whole
+
+pub unknown : (words rest : List Bytes) (first : Bytes) (o : Option Name) → Parts words first rest → o ≡ named first → o ≡ None → parsed_as words ≡ Err fault.Unknown
+unknown words rest first o p h e = behind_is words rest first p ∙ ap (behind first rest) (sym h ∙ e)
+
+known : (words rest : List Bytes) (first : Bytes) (o : Option Name) (n : Name) (weight : ℕ) → Parts words first rest → o ≡ named first → o ≡ Some n → weight ≡ weight_of words → parsed_as words ≡ by_name (lower first) (read n weight rest)
+known words rest first o n weight p h e k =
+    behind_is words rest first p ∙ ap (behind first rest) (sym h ∙ e) ∙ ap (λ w. by_name (lower first) (read n w rest)) (sym (k ∙ ap weight_of p.whole))
+
+pub done : (words rest : List Bytes) (first : Bytes) (o : Option Name) (n : Name) (weight : ℕ) (x : Parsed) → Parts words first rest → o ≡ named first → o ≡ Some n → weight ≡ weight_of words → read n weight rest ≡ Ok x → parsed_as words ≡ Ok x
+done words rest first o n weight x p h e k d = known words rest first o n weight p h e k ∙ ap (by_name (lower first)) d
+
+told_kind : (kind : FaultKind) (name : Bytes) (r : CommandFault) (t : Result Parsed FaultKind) (q : Result Parsed CommandFault) → q ≡ by_name name t → Tells (Err kind) t → IsParsed (Err r) (Err (told name kind)) → IsParsed (Err r) q
+told_kind kind name fault.NoMem t q e d m = tt
+told_kind wrong.NoMem name r t q e d m = cc
+told_kind kind name r t q e d m = e ∙ ap (by_name name) d ∙ m
+
+pub refused : (words rest : List Bytes) (first : Bytes) (o : Option Name) (n : Name) (weight : ℕ) (kind : FaultKind) (r : CommandFault) → Parts words first rest → o ≡ named first → o ≡ Some n → weight ≡ weight_of words → Tells (Err kind) (read n weight rest) → IsParsed (Err r) (Err (told (lower first) kind)) → IsParsed (Err r) (parsed_as words)
+refused words rest first o n weight kind r p h e k d m = told_kind kind (lower first) r (read n weight rest) (parsed_as words) (known words rest first o n weight p h e k) d m

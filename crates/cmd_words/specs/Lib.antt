@@ -1,0 +1,10 @@
+pub mod Words
+pub mod Bounds
+pub mod Places
+pub mod Reading
+pub mod Options
+pub mod Add
+pub mod Names
+pub mod Table
+pub mod Parsed
+pub mod Texts

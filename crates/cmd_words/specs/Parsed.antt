@@ -1,0 +1,51 @@
+-- What the words of a request are read into.
+use Rattle.std.specs.Prelude.{◌≡◌, ◌<◌, List, [], ◌∷◌, Option, Some, None, Result, Ok, Err}
+use Rattle.kv_base.specs.Map.{Bytes}
+use Rattle.redis_model.specs.declared.upkeep.Upkeep.TheVariants.{Compact}
+use Rattle.redis_model.specs.About.{weight}
+use Rattle.redis_model.specs.Limits.{IsWithin}
+use Rattle.cmd_words.specs.Words.{lower, weight_of}
+use Rattle.cmd_words.specs.Names.{named}
+use Rattle.cmd_words.specs.Table.{read}
+use Rattle.cmd_words.specs.declared.name.Name.{Name}
+use Rattle.cmd_words.specs.declared.fault.FaultKind.{FaultKind}
+use Rattle.cmd_words.specs.declared.fault.FaultKind.TheVariants as wrong
+use Rattle.cmd_words.specs.declared.fault.CommandFault.{CommandFault}
+use Rattle.cmd_words.specs.declared.fault.CommandFault.TheVariants as fault
+use Rattle.cmd_words.specs.declared.parsed.Parsed.{Parsed}
+use Rattle.cmd_words.specs.declared.parsed.Parsed.TheVariants.{Data, Upkeep}
+
+-- two faults are told with the command's name
+abbrev pub told : Bytes → FaultKind → CommandFault
+told name wrong.Arity = fault.Arity name
+told name wrong.TooLong = fault.TooLong
+told name wrong.Syntax = fault.Syntax
+told name wrong.NotInt = fault.NotInt
+told name wrong.NotScore = fault.NotScore
+told name wrong.BadExpire = fault.BadExpire name
+told name wrong.BadIndex = fault.BadIndex
+told name wrong.NoMem = fault.NoMem
+
+abbrev pub by_name : Bytes → Result Parsed FaultKind → Result Parsed CommandFault
+by_name name (Ok p) = Ok p
+by_name name (Err e) = Err (told name e)
+
+abbrev pub behind : Bytes → List Bytes → Option Name → Result Parsed CommandFault
+behind word ws None = Err fault.Unknown
+behind word ws (Some n) = by_name (lower word) (read n (weight_of (word ∷ ws)) ws)
+
+-- The first word is the name. A fault comes with the name in lower case
+unfoldable pub parsed_as : List Bytes → Result Parsed CommandFault
+parsed_as [] = Err fault.Unknown
+parsed_as (word ∷ ws) = behind word ws (named word)
+
+-- what was returned is what the words are read into, unless memory ran out
+abbrev pub IsParsed : Result Parsed CommandFault → Result Parsed CommandFault → Type 0
+IsParsed (Err fault.NoMem) p = Unit {0}
+IsParsed r p = p ≡ r
+
+-- what a request can ask for: a command within the limits, which weighs what the words weigh, or a level that is there
+abbrev pub IsAsked : List Bytes → Parsed → Type 0
+IsAsked words (Data c) = IsWithin c × (weight c ≡ weight_of words)
+IsAsked words (Upkeep (Compact (Some n))) = n < 4
+IsAsked words _ = Unit {0}

@@ -1,0 +1,16 @@
+-- The texts of the faults. Those of Arity, Syntax, NotInt and BadIndex are Redis's, all others are this server's own.
+use Rattle.std.specs.Prelude.{◌++◌, codes}
+use Rattle.kv_base.specs.Map.{Bytes}
+use Rattle.cmd_words.specs.declared.fault.CommandFault.{CommandFault}
+use Rattle.cmd_words.specs.declared.fault.CommandFault.TheVariants as fault
+
+abbrev pub fault_text : CommandFault → Bytes
+fault_text fault.Unknown = codes "ERR unknown command"
+fault_text (fault.Arity name) = codes "ERR wrong number of arguments for '" ++ name ++ codes "' command"
+fault_text fault.TooLong = codes "ERR word too long"
+fault_text fault.Syntax = codes "ERR syntax error"
+fault_text fault.NotInt = codes "ERR value is not an integer or out of range"
+fault_text fault.NotScore = codes "ERR value is not a whole score"
+fault_text (fault.BadExpire name) = codes "ERR invalid expire time in '" ++ name ++ codes "' command"
+fault_text fault.BadIndex = codes "ERR DB index is out of range"
+fault_text fault.NoMem = codes "NOMEM no memory"
