@@ -1,3 +1,4 @@
-pub mod Words
-pub mod Written
+pub mod WordsRead
 mod ReplyPieces
+pub mod Searching
+pub mod Cutting

@@ -1,4 +1,4 @@
--- The pieces that are written of a reply make its text.
+-- The pieces that are written of a reply or a fault make its text.
 use Rattle.std.proofs.Common.{◌≡◌, ℕ, ◌+◌, ◌<◌, ◌≤◌, List, [], ◌++◌, length, take, drop, get_or, sym, ap, ◌∙◌, append_assoc}
 use Rattle.std.proofs.lemmas.List.{append-nil, take_all, take_more, flat_map_more}
 use Rattle.std.specs.List.{flat_map}
@@ -10,6 +10,8 @@ use Rattle.redis_model.specs.declared.reply.Reply.TheVariants as reply
 use Rattle.redis_model.specs.declared.reply.ReplyError.{ReplyError}
 use Rattle.redis_model.specs.declared.reply.TypeWord.{TypeWord}
 use Rattle.redis_model.specs.Render.{render, line_end, word_text, error_text}
+use Rattle.resp_wire.specs.declared.fault.WireFault.{WireFault}
+use Rattle.resp_wire.specs.Fault.{fault_line, fault_text}
 use Rattle.redis_model.specs.RenderLaws.{render-Word, render-Int, render-Bulk, render-Array, render-Error}
 
 pub word_pieces : (word : TypeWord) (text : List ℕ) → text ≡ word_text word → codes "+" ++ (text ++ (line_end ++ [])) ≡ render (reply.Word word)
@@ -26,6 +28,13 @@ bulk_pieces bytes digits e = regrouped ∙ ap (λ (t : List ℕ). codes "$" ++ t
 
 pub error_pieces : (error : ReplyError) (text : List ℕ) → text ≡ error_text error → codes "-" ++ (text ++ (line_end ++ [])) ≡ render (reply.Error error)
 error_pieces error text e = ap (λ (t : List ℕ). codes "-" ++ t ++ line_end) e ∙ sym (render-Error error)
+
+pub fault_pieces : (fault : WireFault) (place : ℕ) (text digits : List ℕ) → text ≡ fault_text fault → digits ≡ decimal place
+    → codes "-ERR Protocol error: " ++ (text ++ (codes " at " ++ (digits ++ (line_end ++ [])))) ≡ fault_line fault place
+fault_pieces fault place text digits e d = regrouped ∙ ap (λ (t : List ℕ). codes "-ERR Protocol error: " ++ t ++ codes " at " ++ digits ++ line_end) e ∙ ap (λ (t : List ℕ). codes "-ERR Protocol error: " ++ fault_text fault ++ codes " at " ++ t ++ line_end) d
+  where
+    regrouped : codes "-ERR Protocol error: " ++ (text ++ (codes " at " ++ (digits ++ (line_end ++ [])))) ≡ codes "-ERR Protocol error: " ++ text ++ codes " at " ++ digits ++ line_end
+    regrouped = simp append_assoc
 
 -- the line in front of the parts of an array
 abbrev pub array_line : ℕ → List ℕ

@@ -5,12 +5,11 @@ use Rattle.std.specs.Char.{is_ascii_digit}
 use Rattle.std.proofs.lemmas.Grind.{common_steps}
 use Rattle.std.proofs.lemmas.Bool.{cases_lt}
 use Rattle.std.proofs.lemmas.List.{drop-drop, length-drop}
-use Rattle.resp_wire.specs.declared.stop.FaultKind.TheVariants.{BadMark}
 use Rattle.resp_wire.specs.declared.parts.Limit.{Limit}
 use Rattle.resp_wire.specs.declared.parts.Limit.TheVariants.{Words, Bytes}
 use Rattle.resp_wire.specs.declared.stop.Stop.{Stop}
-use Rattle.resp_wire.specs.declared.stop.Stop.TheVariants.{Bad}
-use Rattle.resp_wire.specs.Grammar.{Part, ◌>>=◌, mark, line_end, exceeds, with_digit, is_lone_zero, text_end, length_from, length_text, body, bulk, bulks, minus_one, count, header, request}
+use Rattle.resp_wire.specs.Grammar.{Part, ◌>>=◌, mark, line_end, exceeds, with_digit, is_lone_zero, text_end, length_from, length_text, body, bulk, bulks, minus_one, count, array, is_quote, line, line_words, inline, header, request}
+use Rattle.resp_wire.specs.Lines.{onto, walk, line_walk}
 use Rattle.resp_wire.specs.Reading.{IsEnd}
 
 pub end_here : (a : List ℕ) → IsEnd a a
@@ -120,6 +119,20 @@ unfolding count
 count_leaves [] = tt
 count_leaves (c ∷ bytes) = if_leaves behind_of (c ∷ bytes) (c == 45) _ _ (cons_leaves behind_of c bytes _ (minus_one_leaves (length bytes + 2) bytes)) (length_text_leaves Words (c ∷ bytes))
 
+array_leaves : (bytes : List ℕ) → Leaves behind_of bytes (array bytes)
+unfolding array
+array_leaves bytes = then_leaves behind_of behind_of bytes (count bytes) (λ n. bulks n.0 16777216 n.1) (count_leaves bytes) (λ n. bulks_leaves n.0 16777216 n.1)
+
+walk_leaves : (most left : ℕ) (bytes : List ℕ) → Leaves behind_of bytes (walk most left bytes)
+unfolding walk
+walk_leaves zero left [] = tt
+walk_leaves (suc n) left [] = tt
+walk_leaves zero left (c ∷ rest) = if_leaves behind_of (c ∷ rest) (c == 10) (Ok ([], rest)) _ (end_cons c rest rest (end_here rest)) tt
+walk_leaves (suc n) left (c ∷ rest) =
+    if_leaves behind_of (c ∷ rest) (c == 10) (Ok ([], rest)) _ (end_cons c rest rest (end_here rest))
+    (if_leaves behind_of (c ∷ rest) (is_quote c) _ (walk n left rest >>= onto c) tt
+    (cons_leaves behind_of c rest (walk n left rest >>= onto c) (then_leaves behind_of behind_of rest (walk n left rest) (onto c) (walk_leaves n left rest) (λ x. end_here x.1))))
+
 -- ---- a request takes at least a byte
 
 abbrev pub Shortens : {A : Type 0} → List ℕ → Part A → Type 0
@@ -130,13 +143,9 @@ taken : {A : Type 0} (c : ℕ) (bytes : List ℕ) (r : Part A) → Leaves behind
 taken c bytes (Ok x) h = (end_cons c bytes x.1 h, omega (arith, h.fits))
 taken c bytes (Err e) h = tt
 
-pub header_shortens : (bytes : List ℕ) → Shortens bytes (header bytes)
-unfolding header mark
-header_shortens [] = tt
-header_shortens (c ∷ bytes) = elim (c == 42) as (λ b. Shortens (c ∷ bytes) (cond b (Ok bytes) (Err (Bad BadMark (length bytes + 1))) >>= count)) [
-  | true ↦ taken c bytes (count bytes) (count_leaves bytes)
-  | false ↦ tt
-]
+if_shortens : {A : Type 0} (bytes : List ℕ) (b : Bool) (r s : Part A) → Shortens bytes r → Shortens bytes s → Shortens bytes (cond b r s)
+if_shortens bytes true r s p q = p
+if_shortens bytes false r s p q = q
 
 then_shortens : {A B : Type 0} (bytes : List ℕ) (r : Part A) (f : A × List ℕ → Part B) → Shortens bytes r → ((x : A × List ℕ) → Leaves behind_of x.1 (f x)) → Shortens bytes (r >>= f)
 then_shortens bytes (Err e) f h k = tt
@@ -146,6 +155,32 @@ then_shortens {A} {B} bytes (Ok x) f h k =
       | Err e ↦ λ q. tt
     ] (k x)
 
+walk_shortens : (most left : ℕ) (bytes : List ℕ) → Shortens bytes (walk most left bytes)
+unfolding walk
+walk_shortens zero left [] = tt
+walk_shortens (suc n) left [] = tt
+walk_shortens zero left (c ∷ rest) = if_shortens (c ∷ rest) (c == 10) (Ok ([], rest)) _ (taken {A = List ℕ} c rest (Ok ([], rest)) (end_here rest)) tt
+walk_shortens (suc n) left (c ∷ rest) =
+    if_shortens (c ∷ rest) (c == 10) (Ok ([], rest)) _ (taken {A = List ℕ} c rest (Ok ([], rest)) (end_here rest))
+    (if_shortens (c ∷ rest) (is_quote c) _ (walk n left rest >>= onto c) tt
+    (taken c rest (walk n left rest >>= onto c) (then_leaves behind_of behind_of rest (walk n left rest) (onto c) (walk_leaves n left rest) (λ x. end_here x.1))))
+
+pub line_shortens : (bytes : List ℕ) → Shortens bytes (line bytes)
+line_shortens bytes = rw line_walk (walk_shortens 65536 (length bytes) bytes)
+
+inline_shortens : (bytes : List ℕ) → Shortens bytes (inline bytes)
+unfolding inline
+inline_shortens bytes = then_shortens bytes (line bytes) (λ found. Ok (line_words found.0, found.1)) (line_shortens bytes) (λ found. end_here found.1)
+
+pub header_shortens : (bytes : List ℕ) → Shortens bytes (header bytes)
+unfolding header
+header_shortens [] = tt
+header_shortens (c ∷ bytes) =
+    let counted : List (List ℕ) × List ℕ → Part ℕ = λ words. Ok (length words.0, words.1) in
+    if_shortens (c ∷ bytes) (c == 42) (count bytes) (inline (c ∷ bytes) >>= counted) (taken c bytes (count bytes) (count_leaves bytes))
+    (then_shortens (c ∷ bytes) (inline (c ∷ bytes)) counted (inline_shortens (c ∷ bytes)) (λ words. end_here words.1))
+
 pub request_shortens : (bytes : List ℕ) → Shortens bytes (request bytes)
 unfolding request
-request_shortens bytes = then_shortens bytes (header bytes) (λ n. bulks n.0 16777216 n.1) (header_shortens bytes) (λ n. bulks_leaves n.0 16777216 n.1)
+request_shortens [] = tt
+request_shortens (c ∷ bytes) = if_shortens (c ∷ bytes) (c == 42) (array bytes) (inline (c ∷ bytes)) (taken c bytes (array bytes) (array_leaves bytes)) (inline_shortens (c ∷ bytes))

@@ -1,5 +1,5 @@
 -- Requests as a client writes them.
-use Rattle.std.specs.Prelude.{◌≡◌, ℕ, ◌+◌, ◌-◌, ◌/◌, ◌%◌, ◌^◌, ◌≤◌, ◌<◌, true, false, ◌==◌, nat_lt, ◌⊎◌, codes, All, List, [], ◌∷◌, ◌++◌, length, sum_by, decimal, Some, None, Ok, refl}
+use Rattle.std.specs.Prelude.{◌≡◌, ℕ, ◌+◌, ◌-◌, ◌/◌, ◌%◌, ◌^◌, ◌≤◌, ◌<◌, true, false, ◌==◌, nat_lt, ◌⊎◌, codes, All, slice_index, List, [], ◌∷◌, ◌++◌, length, sum_by, decimal, Some, None, Ok, refl}
 use Rattle.std.specs.List.{flat_map}
 use Rattle.std.proofs.Common.{ap, ◌∙◌, append_assoc, arith}
 use Rattle.std.specs.Char.{is_ascii_digit}
@@ -11,7 +11,8 @@ use Rattle.std.proofs.lemmas.List.Sums.{sum_by-cons}
 use Rattle.std.proofs.Math.Seq.{take-append_seam, drop-append_seam}
 use Rattle.resp_wire.specs.declared.parts.Limit.{Limit}
 use Rattle.resp_wire.specs.declared.parts.Limit.TheVariants.{Words, Bytes}
-use Rattle.resp_wire.specs.Grammar.{star, dollar, carriage_return, line_feed, mark, line_end, exceeds, with_digit, text_end, length_from, length_text, body, bulk, bulks, count, header, request, requests, after_request, with_request}
+use Rattle.resp_wire.specs.Grammar.{star, dollar, carriage_return, line_feed, mark, line_end, exceeds, with_digit, text_end, length_from, length_text, body, bulk, bulks, count, array, line_words, request, requests, after_request, with_request}
+use Rattle.resp_wire.specs.Lines.{BeginsLine, is_stop, line_request, inline_read, line_read}
 use Rattle.resp_wire.specs.Requests.{requests_is}
 
 -- a mark, a number and a line end
@@ -73,9 +74,8 @@ one_counted n lt tail = let m : (48 + n == 45) ≡ false = grind (arith, common_
 more_counted : (n : ℕ) (digits : List ℕ) → 10 ≤ n → CountsAsLength (n / 10) digits → CountsAsLength n (digits ++ (48 + n % 10) ∷ [])
 more_counted n digits ge before tail = rw append_assoc (before ((48 + n % 10) ∷ tail))
 
-header_read : (n : ℕ) (rest : List ℕ) → exceeds Words n ≡ false → header (length_line star n ++ rest) ≡ Ok (n, rest)
-unfolding header mark
-header_read n rest h = rw append_assoc (decimal_by_steps CountsAsLength one_counted more_counted n (small Words n h) (carriage_return ∷ line_feed ∷ rest) ∙ number_read Words n rest h)
+count_read : (n : ℕ) (rest : List ℕ) → exceeds Words n ≡ false → count (decimal n ++ carriage_return ∷ line_feed ∷ rest) ≡ Ok (n, rest)
+count_read n rest h = decimal_by_steps CountsAsLength one_counted more_counted n (small Words n h) (carriage_return ∷ line_feed ∷ rest) ∙ number_read Words n rest h
 
 -- ---- words
 
@@ -121,11 +121,11 @@ bulks_read (word ∷ words) room rest each all =
 -- ---- requests
 
 request_read : (words : List (List ℕ)) (rest : List ℕ) → IsWithinLimits words → request (request_text words ++ rest) ≡ Ok (words, rest)
-unfolding request
+unfolding request array
 request_read words rest within =
     let small : exceeds Words (length words) ≡ false = (let k = within.count in grind (arith, common_steps)) in
-    let e : request_text words ++ rest ≡ length_line star (length words) ++ (flat_map word_text words ++ rest) = append_assoc (length_line star (length words)) (flat_map word_text words) rest in
-    rw (e, header_read (length words) (flat_map word_text words ++ rest) small) (bulks_read words 16777216 rest within.each within.all)
+    let e : decimal (length words) ++ carriage_return ∷ line_feed ∷ [] ++ flat_map word_text words ++ rest ≡ decimal (length words) ++ carriage_return ∷ line_feed ∷ (flat_map word_text words ++ rest) = simp append_assoc in
+    rw (e, count_read (length words) (flat_map word_text words ++ rest) small) (bulks_read words 16777216 rest within.each within.all)
 
 -- What a client writes is read, whatever follows it.
 abbrev pub TextsAreRead : Type 0
@@ -134,10 +134,49 @@ TextsAreRead = (words : List (List ℕ)) (rest : List ℕ) → IsWithinLimits wo
 pub texts_are_read : TextsAreRead
 texts_are_read words rest within = requests_is (request_text words ++ rest) ∙ ap (after_request requests (request_text words ++ rest)) (request_read words rest within)
 
--- the other text of a request without words: `*-1` and a line end
+-- ---- inline lines
+
+-- An inline line without its line feed: at most 65,536 bytes, none of them a line feed or a quote, and the first no `*`.
+pub record IsLine (text : List ℕ) : Type 0 where
+  pub fits : length text ≤ 65536
+  pub plain : All (λ c. is_stop c ≡ false) text
+  pub first : slice_index text 0 ≡ star → ⊥
+
+line_begins : (text rest : List ℕ) → IsLine text → BeginsLine (text ++ line_feed ∷ rest)
+line_begins [] rest is = record { some = omega arith; first = λ e. absurd (omega arith) }
+line_begins (c ∷ text) rest is = record { some = omega arith; first = is.first }
+
+-- The words of a line are read, whatever follows its line feed.
+abbrev pub LinesAreRead : Type 0
+LinesAreRead = (text rest : List ℕ) → IsLine text → requests (text ++ line_feed ∷ rest) ≡ with_request (line_words text) (requests rest)
+
+pub lines_are_read : LinesAreRead
+lines_are_read text rest is =
+    let bytes : List ℕ = text ++ line_feed ∷ rest in
+    let read : request bytes ≡ Ok (line_words text, rest) = line_request bytes (line_begins text rest is) ∙ inline_read bytes text rest (line_read text rest is.fits is.plain) in
+    requests_is bytes ∙ ap (after_request requests bytes) read
+
+-- ---- all that is read
+
+-- the other text of an array without words: `*-1` and a line end
 abbrev pub null_text : List ℕ
 null_text = codes "*-1\r\n"
 
--- Nothing else is read.
+-- the text is an inline line of these words
+pub record IsInline (words : List (List ℕ)) (text : List ℕ) : Type 0 where
+  pub front : List ℕ
+  pub is_line : IsLine front
+  pub has : line_words front ≡ words
+  pub is : text ≡ front ++ line_feed ∷ []
+
+-- A request is what a client writes of its words, or the null array, or an inline line of its words.
+abbrev pub IsRequest : List (List ℕ) → List ℕ → Type 0
+IsRequest words text = (text ≡ request_text words) ⊎ (((words ≡ []) × (text ≡ null_text)) ⊎ IsInline words text)
+
+-- Nothing else is read, and no words beyond the limits.
 abbrev pub OnlyTextsAreRead : Type 0
-OnlyTextsAreRead = (bytes : List ℕ) (words : List (List ℕ)) (rest : List ℕ) → request bytes ≡ Ok (words, rest) → (IsWithinLimits words × (bytes ≡ request_text words ++ rest)) ⊎ ((words ≡ []) × (bytes ≡ null_text ++ rest))
+OnlyTextsAreRead = (bytes : List ℕ) (words : List (List ℕ)) (rest : List ℕ) → request bytes ≡ Ok (words, rest) → IsWithinLimits words × ((text : List ℕ) × IsRequest words text × (bytes ≡ text ++ rest))
+
+-- The words of each request of a text are within the limits.
+abbrev pub WordsAreWithinLimits : Type 0
+WordsAreWithinLimits = (bytes : List ℕ) → All IsWithinLimits (requests bytes).0

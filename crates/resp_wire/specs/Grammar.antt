@@ -1,9 +1,12 @@
 -- The requests that a text holds. A request is an array of bulk strings: `*`, a number and a line end, and then
--- for each bulk string `$`, its length, a line end, its bytes and a line end.
-use Rattle.std.specs.Prelude.{ℕ, zero, suc, ◌+◌, ◌-◌, ◌*◌, Bool, false, not, ◌==◌, ◌||◌, nat_lt, if◌then◌else◌, List, [], ◌∷◌, length, take, drop, Option, Some, None, unwrap_or, Result, Ok, Err}
+-- for each bulk string `$`, its length, a line end, its bytes and a line end. Any other first byte begins an inline
+-- line: words between blanks, up to a line feed.
+use Rattle.std.specs.Prelude.{ℕ, zero, suc, ◌+◌, ◌-◌, ◌*◌, Bool, true, false, not, ◌==◌, ◌||◌, nat_lt, if◌then◌else◌, List, [], ◌∷◌, length, take, drop, filter, Option, Some, None, unwrap_or, Result, Ok, Err}
+use Rattle.std.specs.List.{list_any, position_or_len, before_first, after_first, slice_split}
 use Rattle.std.specs.Char.{is_ascii_digit}
+use Rattle.std.specs.Str.Lines.{strip_carriage_return}
 use Rattle.resp_wire.specs.declared.stop.FaultKind.{FaultKind}
-use Rattle.resp_wire.specs.declared.stop.FaultKind.TheVariants.{BadMark, BadLength, TooLong}
+use Rattle.resp_wire.specs.declared.stop.FaultKind.TheVariants.{BadMark, BadLength, TooLong, Quote}
 use Rattle.resp_wire.specs.declared.stop.Stop.{Stop}
 use Rattle.resp_wire.specs.declared.stop.Stop.TheVariants.{More, Bad}
 use Rattle.resp_wire.specs.declared.parts.Limit.{Limit}
@@ -79,7 +82,7 @@ length_from limit left so_far (c ∷ rest) =
 unfoldable pub length_text : Limit → List ℕ → Part ℕ
 length_text limit bytes = length_from limit (length bytes + 1) None bytes
 
--- ---- requests
+-- ---- arrays
 
 -- n bytes and a line end
 unfoldable pub body : ℕ → List ℕ → Part (List ℕ)
@@ -104,17 +107,63 @@ unfoldable pub minus_one : ℕ → List ℕ → Part ℕ
 minus_one left [] = Err More
 minus_one left (c ∷ bytes) = if c == 49 then text_end left (Some 0) bytes else Err (Bad BadLength left)
 
--- how many words a request has, by what follows the `*`
+-- how many words an array has, by what follows its `*`
 unfoldable pub count : List ℕ → Part ℕ
 count [] = Err More
 count (c ∷ bytes) = if c == minus then minus_one (length bytes + 2) bytes else length_text Words (c ∷ bytes)
 
-unfoldable pub header : List ℕ → Part ℕ
-header bytes = mark star bytes >>= count
+-- an array behind its `*`, which may hold 16,777,216
+unfoldable pub array : List ℕ → Part (List (List ℕ))
+array bytes = count bytes >>= λ n. bulks n.0 16777216 n.1
 
--- the words of the request in front, which may hold 16,777,216
+-- ---- inline lines
+
+abbrev pub is_line_feed : ℕ → Bool
+is_line_feed c = c == line_feed
+
+-- `"` or `'`
+abbrev pub is_quote : ℕ → Bool
+is_quote c = c == 34 || c == 39
+
+-- a space or a tab
+abbrev pub is_blank : ℕ → Bool
+is_blank c = c == 32 || c == 9
+
+-- The line up to the first line feed, which has at most so many bytes, and whose first byte stands where `left` are
+-- left. A quote among the bytes that it may have is a fault at that quote, and a byte more is one at the first byte.
+unfoldable pub line_within : ℕ → ℕ → List ℕ → Part (List ℕ)
+line_within most left bytes =
+    if list_any is_quote (take most (before_first is_line_feed bytes)) then Err (Bad Quote (length bytes - position_or_len is_quote bytes))
+    else if nat_lt most (length (before_first is_line_feed bytes)) then Err (Bad TooLong left)
+    else if list_any is_line_feed bytes then Ok (before_first is_line_feed bytes, after_first is_line_feed bytes)
+    else Err More
+
+-- an inline line has at most 65,536 bytes
+unfoldable pub line : List ℕ → Part (List ℕ)
+line bytes = line_within 65536 (length bytes) bytes
+
+abbrev pub is_word : List ℕ → Bool
+is_word [] = false
+is_word (c ∷ word) = true
+
+-- the words of a line, which blanks part; a carriage return at its end is none of it
+unfoldable pub line_words : List ℕ → List (List ℕ)
+line_words bytes = filter is_word (slice_split is_blank (strip_carriage_return bytes))
+
+unfoldable pub inline : List ℕ → Part (List (List ℕ))
+inline bytes = line bytes >>= λ found. Ok (line_words found.0, found.1)
+
+-- ---- requests
+
+-- the words of the request in front
 unfoldable pub request : List ℕ → Part (List (List ℕ))
-request bytes = header bytes >>= λ n. bulks n.0 16777216 n.1
+request [] = Err More
+request (c ∷ bytes) = if c == star then array bytes else inline (c ∷ bytes)
+
+-- how many words the request in front has, as soon as that is known: behind an array's first line or an inline line
+unfoldable pub header : List ℕ → Part ℕ
+header [] = Err More
+header (c ∷ bytes) = if c == star then count bytes else (inline (c ∷ bytes) >>= λ words. Ok (length words.0, words.1))
 
 -- How a text ends: behind a request, in a request that begins where so many bytes are left, or in a fault there.
 pub data End : Type 0 where

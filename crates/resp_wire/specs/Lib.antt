@@ -1,4 +1,6 @@
 pub mod Grammar
+pub mod Lines
+pub mod Fault
 pub mod Reading
 pub mod Parts
 pub mod Held
@@ -7,3 +9,4 @@ pub mod Longer
 pub mod Requests
 pub mod Holding
 pub mod Encoding
+pub mod Written

@@ -6,12 +6,13 @@ use Rattle.std.proofs.lemmas.Grind.{common_steps}
 use Rattle.std.proofs.lemmas.Bool.{cases_lt}
 use Rattle.std.proofs.lemmas.List.{take-append-le, drop-append-le, length-append}
 use Rattle.resp_wire.specs.declared.stop.FaultKind.{FaultKind}
-use Rattle.resp_wire.specs.declared.stop.FaultKind.TheVariants.{BadMark, BadLength, TooLong}
+use Rattle.resp_wire.specs.declared.stop.FaultKind.TheVariants.{BadMark, BadLength, TooLong, Quote}
 use Rattle.resp_wire.specs.declared.parts.Limit.{Limit}
 use Rattle.resp_wire.specs.declared.parts.Limit.TheVariants.{Words, Bytes}
 use Rattle.resp_wire.specs.declared.stop.Stop.{Stop}
 use Rattle.resp_wire.specs.declared.stop.Stop.TheVariants.{More, Bad}
-use Rattle.resp_wire.specs.Grammar.{Part, ◌>>=◌, mark, line_end, exceeds, with_digit, is_lone_zero, text_end, length_from, length_text, body, bulk, bulks, minus_one, count, header, request}
+use Rattle.resp_wire.specs.Grammar.{Part, ◌>>=◌, mark, line_end, exceeds, with_digit, is_lone_zero, text_end, length_from, length_text, body, bulk, bulks, minus_one, count, array, is_quote, line, line_words, inline, header, request}
+use Rattle.resp_wire.specs.Lines.{onto, walk, line_walk}
 
 -- r is read in a text and s in the text with `more` behind it, where `on` puts `more` behind what is left
 abbrev pub Stays : {X : Type 0} → (X → List ℕ → X) → Result X Stop → Result X Stop → List ℕ → Type 0
@@ -102,7 +103,7 @@ unfolding minus_one
 minus_one_stays left [] more = tt
 minus_one_stays left (c ∷ bytes) more = if_stays part_on (c == 49) (text_end left (Some 0) bytes) (bad BadLength left) (text_end (left + length more) (Some 0) (bytes ++ more)) (bad BadLength (left + length more)) more (text_end_stays left (Some 0) bytes more) refl
 
-count_stays : (bytes more : List ℕ) → Stays part_on (count bytes) (count (bytes ++ more)) more
+pub count_stays : (bytes more : List ℕ) → Stays part_on (count bytes) (count (bytes ++ more)) more
 unfolding count
 count_stays [] more = tt
 count_stays (c ∷ bytes) more =
@@ -110,10 +111,44 @@ count_stays (c ∷ bytes) more =
     if_stays part_on (c == 45) (minus_one (length bytes + 2) bytes) (length_text Words (c ∷ bytes)) (minus_one (length (bytes ++ more) + 2) (bytes ++ more)) (length_text Words (c ∷ (bytes ++ more))) more
     (rw e (minus_one_stays (length bytes + 2) bytes more)) (length_text_stays Words (c ∷ bytes) more)
 
+array_stays : (bytes more : List ℕ) → Stays part_on (array bytes) (array (bytes ++ more)) more
+unfolding array
+array_stays bytes more = then_stays part_on part_on (count bytes) (count (bytes ++ more)) (λ n. bulks n.0 16777216 n.1) (λ n. bulks n.0 16777216 n.1) more (count_stays bytes more) (λ n. bulks_stays n.0 16777216 n.1 more)
+
+-- ---- inline lines
+
+walk_stays : (most left : ℕ) (bytes more : List ℕ) → Stays part_on (walk most left bytes) (walk most (left + length more) (bytes ++ more)) more
+unfolding walk
+walk_stays zero left [] more = tt
+walk_stays (suc n) left [] more = tt
+walk_stays zero left (c ∷ rest) more = if_stays part_on (c == 10) (Ok ([], rest)) (bad TooLong left) (Ok ([], rest ++ more)) (bad TooLong (left + length more)) more refl refl
+walk_stays (suc n) left (c ∷ rest) more =
+    if_stays part_on (c == 10) (Ok ([], rest)) _ (Ok ([], rest ++ more)) _ more refl
+    (if_stays part_on (is_quote c) (bad Quote (length rest + 1)) (walk n left rest >>= onto c) (bad Quote (length (rest ++ more) + 1)) (walk n (left + length more) (rest ++ more) >>= onto c) more
+    (ap (bad Quote) (omega (arith, length-append rest more)))
+    (then_stays part_on part_on (walk n left rest) (walk n (left + length more) (rest ++ more)) (onto c) (onto c) more (walk_stays n left rest more) (λ x. refl)))
+
+pub line_stays : (bytes more : List ℕ) → Stays part_on (line bytes) (line (bytes ++ more)) more
+line_stays bytes more =
+    let e : length (bytes ++ more) ≡ length bytes + length more = length-append bytes more in
+    rw (line_walk bytes, line_walk (bytes ++ more), e) (walk_stays 65536 (length bytes) bytes more)
+
+pub inline_stays : (bytes more : List ℕ) → Stays part_on (inline bytes) (inline (bytes ++ more)) more
+unfolding inline
+inline_stays bytes more = then_stays part_on part_on (line bytes) (line (bytes ++ more)) (λ found. Ok (line_words found.0, found.1)) (λ found. Ok (line_words found.0, found.1)) more (line_stays bytes more) (λ found. refl)
+
+-- ---- requests
+
 pub header_stays : (bytes more : List ℕ) → Stays part_on (header bytes) (header (bytes ++ more)) more
 unfolding header
-header_stays bytes more = then_stays ◌++◌ part_on (mark 42 bytes) (mark 42 (bytes ++ more)) count count more (mark_stays 42 bytes more) (λ behind. count_stays behind more)
+header_stays [] more = tt
+header_stays (c ∷ bytes) more =
+    let counted : List (List ℕ) × List ℕ → Part ℕ = λ words. Ok (length words.0, words.1) in
+    if_stays part_on (c == 42) (count bytes) (inline (c ∷ bytes) >>= counted) (count (bytes ++ more)) (inline (c ∷ (bytes ++ more)) >>= counted) more (count_stays bytes more)
+    (then_stays part_on part_on (inline (c ∷ bytes)) (inline (c ∷ (bytes ++ more))) counted counted more (inline_stays (c ∷ bytes) more) (λ words. refl))
 
 pub request_stays : (bytes more : List ℕ) → Stays part_on (request bytes) (request (bytes ++ more)) more
 unfolding request
-request_stays bytes more = then_stays part_on part_on (header bytes) (header (bytes ++ more)) (λ n. bulks n.0 16777216 n.1) (λ n. bulks n.0 16777216 n.1) more (header_stays bytes more) (λ n. bulks_stays n.0 16777216 n.1 more)
+request_stays [] more = tt
+request_stays (c ∷ bytes) more =
+    if_stays part_on (c == 42) (array bytes) (inline (c ∷ bytes)) (array (bytes ++ more)) (inline (c ∷ (bytes ++ more))) more (array_stays bytes more) (inline_stays (c ∷ bytes) more)

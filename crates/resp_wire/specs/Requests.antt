@@ -3,7 +3,7 @@ use Rattle.std.specs.Prelude.{◌≡◌, ℕ, zero, suc, ◌+◌, ◌≤◌, ◌
 use Rattle.std.proofs.Common.{sym, ap, subst, ◌∙◌, arith}
 use Rattle.resp_wire.specs.declared.stop.FaultKind.{FaultKind}
 use Rattle.resp_wire.specs.declared.stop.Stop.TheVariants.{More, Bad}
-use Rattle.resp_wire.specs.Grammar.{Part, End, mark, header, request, requests_within, requests, after_request, with_request, open_end}
+use Rattle.resp_wire.specs.Grammar.{Part, End, request, requests_within, requests, after_request, with_request, open_end}
 use Rattle.resp_wire.specs.Reading.{Reads, IsFaulty, IsUnfinished, IsEnd}
 use Rattle.resp_wire.specs.Behind.{Shortens, request_shortens}
 use Rattle.resp_wire.specs.Longer.{Stays, part_on, request_stays}
@@ -18,7 +18,7 @@ same_after f g bytes (Err More) s h = refl
 same_after f g bytes (Err (Bad kind left)) s h = refl
 
 nothing_read : (f : List ℕ → Found) → after_request f [] (request []) ≡ ([], open_end [])
-unfolding request header mark
+unfolding request
 nothing_read f = refl
 
 enough : (n m : ℕ) (bytes : List ℕ) → length bytes ≤ n → length bytes ≤ m → requests_within n bytes ≡ requests_within m bytes

@@ -1,7 +1,7 @@
 //! Laws of the definitions, which the check proves. Each function's contract is one.
 
 ghost use Rattle.resp_wire.specs.Holding.{FaultsStay, NoneIsAFront, RequestsGoOn, WholesJoin};
-ghost use Rattle.resp_wire.specs.Encoding.{OnlyTextsAreRead, TextsAreRead};
+ghost use Rattle.resp_wire.specs.Encoding.{LinesAreRead, OnlyTextsAreRead, TextsAreRead, WordsAreWithinLimits};
 
 /// However a text goes on, it keeps its requests.
 #[tactic(auto, using(crate::specs::Holding::requests_go_on))]
@@ -33,8 +33,20 @@ pub fn texts_are_read()
     ensures { TextsAreRead }
 {}
 
-/// Nothing else is read: a request is the text of its words, or `*-1` and a line end.
-#[tactic(auto, using(crate::proofs::Written::only_texts_are_read))]
+/// The words of an inline line are read, whatever follows its line feed.
+#[tactic(auto, using(crate::specs::Encoding::lines_are_read))]
+pub fn lines_are_read()
+    ensures { LinesAreRead }
+{}
+
+/// Nothing else is read: a request is the text of its words, or `*-1` and a line end, or an inline line of its words.
+/// Its words are within the limits of a request.
+#[tactic(auto, using(crate::specs::Written::only_texts_are_read))]
 pub fn only_texts_are_read()
     ensures { OnlyTextsAreRead }
+{}
+
+/// The words of each request of a text are within the limits of a request, in an array or a line.
+pub fn words_are_within_limits()
+    ensures { WordsAreWithinLimits }
 {}

@@ -1,7 +1,11 @@
 //! The wire: requests from bytes in any pieces, and replies as bytes.
 #![tactic(auto)]
 
+mod fault;
 pub mod laws;
+mod line;
+#[cfg(test)]
+mod paper;
 mod parts;
 mod pending;
 mod reader;
@@ -9,7 +13,9 @@ mod reply;
 mod stop;
 #[cfg(test)]
 mod tests;
+mod words;
 
+pub use fault::{WireFault, write_fault};
 pub use reader::Reader;
 pub use reply::{write_error, write_reply};
 pub use stop::{FaultKind, NextFault};

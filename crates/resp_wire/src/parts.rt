@@ -1,7 +1,7 @@
-//! The parts of a request. Each function answers its part and the text behind it, and allocates nothing.
+//! The parts of an array. Each function answers its part and the text behind it, and allocates nothing.
 
 ghost use Rattle.std.specs.Prelude.{◌≡◌, ◌≤◌};
-ghost use Rattle.resp_wire.specs.Grammar.{mark as mark_at, line_end as line_at, exceeds as exceeds_at, text_end as text_at, length_text as length_at, body as body_at, bulk as bulk_at, minus_one as minus_at, count as count_at, header as header_at};
+ghost use Rattle.resp_wire.specs.Grammar.{mark as mark_at, line_end as line_at, exceeds as exceeds_at, text_end as text_at, length_text as length_at, body as body_at, bulk as bulk_at, minus_one as minus_at, count as count_at};
 ghost use Rattle.resp_wire.specs.Parts.{Gives};
 
 use crate::stop::{FaultKind, Stop};
@@ -134,9 +134,9 @@ fn minus_one(left: usize, bytes: &[u8]) -> Result<(usize, &[u8]), Stop>
     }
 }
 
-/// How many words a request has, by what follows the `*`.
+/// How many words an array has, by what follows its `*`.
 #[tactic(auto, unfolding(crate::specs::Grammar::count))]
-fn count(bytes: &[u8]) -> Result<(usize, &[u8]), Stop>
+pub fn count(bytes: &[u8]) -> Result<(usize, &[u8]), Stop>
     ensures { Gives (λ x. (x.0, x.1.now)) result (count_at bytes.now) }
 {
     match bytes {
@@ -144,13 +144,4 @@ fn count(bytes: &[u8]) -> Result<(usize, &[u8]), Stop>
         [b'-', rest @ ..] => minus_one(rest.len() + 2, rest),
         [_, ..] => length_text(Limit::Words, bytes),
     }
-}
-
-/// How many words the request in front has.
-#[tactic(auto, unfolding(crate::specs::Grammar::header))]
-pub fn header(bytes: &[u8]) -> Result<(usize, &[u8]), Stop>
-    ensures { Gives (λ x. (x.0, x.1.now)) result (header_at bytes.now) }
-{
-    let rest = mark(b'*', bytes)?;
-    count(rest)
 }

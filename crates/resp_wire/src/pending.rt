@@ -1,10 +1,14 @@
 ghost use Rattle.std.specs.Prelude.{◌≡◌, ◌<◌, ◌≤◌, ◌+◌, ◌++◌, ◌∷◌, [], drop, vec_len, MatchBool, OnOk, OnErr, IfOk, IfErr};
+ghost use Rattle.resp_wire.specs.Grammar.{star};
+ghost use Rattle.resp_wire.specs.Lines.{BeginsLine};
 ghost use Rattle.resp_wire.specs.Reading.{AsksInside, IsUnfinished, Reads, Refused};
-ghost use Rattle.resp_wire.specs.Held.{AsksWord, IsBegun, IsHeld, answer_of};
+ghost use Rattle.resp_wire.specs.Held.{AsksWord, Fails, IsBegun, IsHeld, IsIdle, Opens, after_search, answer_of, opening_of};
 
-use crate::parts::{WORD_COST, bulk, header};
+use crate::line::line;
+use crate::parts::{WORD_COST, bulk, count};
 use crate::stop::{NextFault, Stop};
-use kv_base::{Blob, Blobs, NoMem};
+use crate::words::{keep, line_words};
+use kv_base::Blobs;
 use std::alloc::Global;
 
 /// What a request may hold: its words' bytes, and 16 more for each word.
@@ -15,11 +19,11 @@ const MAX_REQUEST: usize = 16_777_216;
 pub struct Pending {
     /// Where the request begins.
     pub start: usize,
-    /// Where reading goes on.
+    /// Where reading goes on. Of an inline line that is not there whole, the bytes before it were searched.
     pub next: usize,
     /// The words between the two.
     pub words: Blobs,
-    /// How many words are still to be read; none where the request's header is not read yet.
+    /// How many words are still to be read; none where it is not known yet how many the request has.
     pub missing: usize,
     /// How much the missing words may take.
     pub room: usize,
@@ -54,15 +58,107 @@ fn stopped(stop: Stop) -> Result<bool, NextFault>
     }
 }
 
-/// Passes over requests without words and reads the header of the next one: whether there is one.
-pub fn begin(buf: &[u8], pending: &mut Pending) -> Result<bool, NextFault>
+/// What stands where a request is to begin.
+#[derive(Clone, Copy, Debug, PartialEq, Eq)]
+pub enum Opening {
+    /// Nothing, or less than tells whether the request has words.
+    Unfinished,
+    /// A request without words, which was passed over.
+    Empty,
+    /// A request with words, which is begun.
+    Begun,
+}
+
+/// What is answered where it is not told yet whether a request has words, or where a fault stands.
+fn unopened(stop: Stop) -> Result<Opening, NextFault>
+    ensures { result ≡ opening_of stop }
+{
+    match stop {
+        Stop::More => Ok(Opening::Unfinished),
+        Stop::Bad(kind, left) => Err(NextFault::Wire(kind, left)),
+    }
+}
+
+/// Reads the first line of an array, behind its `*`.
+fn open_array(buf: &[u8], behind: &[u8], pending: &mut Pending) -> Result<Opening, NextFault>
+    requires idle { IsIdle buf.now pending.old }
+    requires here { drop pending.old.start buf.now ≡ star ∷ behind.now }
+    ensures ok { IfOk result (λ opening. Opens buf.now pending.old pending.new opening) }
+    ensures err { IfErr result (λ e. Fails buf.now pending.old pending.new e) }
+{
+    let (count, rest) = match count(behind) {
+        Ok(found) => found,
+        Err(stop) => return unopened(stop),
+    };
+    pending.next = buf.len() - rest.len();
+    if count == 0 {
+        pending.start = pending.next;
+        return Ok(Opening::Empty);
+    }
+    pending.missing = count;
+    pending.room = MAX_REQUEST;
+    Ok(Opening::Begun)
+}
+
+/// What is answered where no inline line was found. Where its end is not there yet, all bytes were searched.
+fn searched(stop: Stop, len: usize, pending: &mut Pending) -> Result<Opening, NextFault>
+    ensures answer { result ≡ opening_of stop }
+    ensures pending { pending.new ≡ after_search stop len pending.old }
+{
+    if stop == Stop::More {
+        pending.next = len;
+    }
+    unopened(stop)
+}
+
+/// Reads an inline line, which is searched on from where it was searched before.
+fn open_line(alloc: Global, buf: &[u8], pending: &mut Pending) -> Result<Opening, NextFault>
+    requires idle { IsIdle buf.now pending.old }
+    requires begins { BeginsLine (drop pending.old.start buf.now) }
+    ensures ok { IfOk result (λ opening. Opens buf.now pending.old pending.new opening) }
+    ensures err { IfErr result (λ e. Fails buf.now pending.old pending.new e) }
+{
+    let (_, rest) = buf.split_at(pending.start);
+    let (text, behind) = match line(pending.next - pending.start, rest) {
+        Ok(found) => found,
+        Err(stop) => return searched(stop, buf.len(), pending),
+    };
+    let words = line_words(alloc, text)?;
+    pending.next = buf.len() - behind.len();
+    if words.is_empty() {
+        pending.start = pending.next;
+        return Ok(Opening::Empty);
+    }
+    pending.words = words;
+    Ok(Opening::Begun)
+}
+
+/// Reads what stands where a request is to begin.
+fn open_next(alloc: Global, buf: &[u8], pending: &mut Pending) -> Result<Opening, NextFault>
+    requires { IsIdle buf.now pending.old }
+    ensures ok { IfOk result (λ opening. Opens buf.now pending.old pending.new opening) }
+    ensures err { IfErr result (λ e. Fails buf.now pending.old pending.new e) }
+{
+    let (_, rest) = buf.split_at(pending.start);
+    let [first, behind @ ..] = rest else {
+        return Ok(Opening::Unfinished);
+    };
+    if *first == b'*' {
+        open_array(buf, behind, pending)
+    } else {
+        open_line(alloc, buf, pending)
+    }
+}
+
+/// Passes over requests without words and begins the next one: whether there is one.
+pub fn begin(alloc: Global, buf: &[u8], pending: &mut Pending) -> Result<bool, NextFault>
     requires { IsHeld buf.now pending.old }
-    ensures held { IsHeld buf.now pending.new }
     ensures forward { pending.old.start ≤ pending.new.start }
     ensures skipped { Reads (drop pending.old.start buf.now) [] (drop pending.new.start buf.now) }
     ensures found { IfOk result (λ found. MatchBool found
-        (0 < pending.new.missing)
-        (IsUnfinished (drop pending.new.start buf.now))) }
+        (IsBegun buf.now pending.new)
+        (IsHeld buf.now pending.new × IsUnfinished (drop pending.new.start buf.now))) }
+    ensures held { OnErr result (IsHeld buf.now pending.new) }
     ensures fault { IfErr result (λ e. Refused (drop pending.new.start buf.now) e) }
     ensures memory { IfErr result (λ e. AsksInside (drop pending.new.start buf.now) e) }
 {
@@ -70,30 +166,12 @@ pub fn begin(buf: &[u8], pending: &mut Pending) -> Result<bool, NextFault>
         return Ok(true);
     }
     loop {
-        let (_, rest) = buf.split_at(pending.next);
-        match header(rest) {
-            Ok((count, behind)) => {
-                pending.next = buf.len() - behind.len();
-                if count > 0 {
-                    pending.missing = count;
-                    pending.room = MAX_REQUEST;
-                    return Ok(true);
-                }
-                pending.start = pending.next;
-            }
-            Err(stop) => return stopped(stop),
+        match open_next(alloc, buf, pending)? {
+            Opening::Unfinished => return Ok(false),
+            Opening::Begun => return Ok(true),
+            Opening::Empty => {}
         }
     }
-}
-
-/// Adds a copy of the word, or nothing where memory is short.
-fn keep(alloc: Global, words: &mut Blobs, word: &[u8]) -> Result<(), NoMem>
-    ensures ok { OnOk result (words.new ≡ words.old ++ word.now ∷ []) }
-    ensures err { OnErr result (words.new ≡ words.old) }
-{
-    let word = Blob::copy(alloc, word)?;
-    words.push(word)?;
-    Ok(())
 }
 
 /// Reads the words that are missing: whether all are there.

@@ -13,9 +13,13 @@ use std::mem;
 /// yet handed out.
 ///
 /// A request is an array of bulk strings, as the RESP2 protocol specification has it: `*`, the number of words, and for
-/// each word `$`, its length in bytes, and its bytes. An empty array and the null array `*-1` are passed over. This
-/// server takes at most 65,536 words, each of at most 1,048,576 bytes, whose lengths with 16 more for each make at most
-/// 16,777,216, and a number is written without a sign or a leading zero.
+/// each word `$`, its length in bytes, and its bytes. Any other first byte begins an inline line, whose words are parted
+/// by spaces and tabs; it ends at a line feed, and one carriage return before that is none of it. An empty array, the
+/// null array `*-1` and a line without words are passed over.
+///
+/// This server takes at most 65,536 words, each of at most 1,048,576 bytes, whose lengths with 16 more for each make at
+/// most 16,777,216, and a number is written without a sign or a leading zero. An inline line has at most 65,536 bytes
+/// before its line feed, and no quotes.
 #[derive(Drop)]
 pub struct Reader {
     alloc: Global,
@@ -64,10 +68,12 @@ impl Reader {
     }
 
     /// The next request that has words, or `None` where the bytes left are the beginning of a request, or none. Of an
-    /// unfinished request the reader keeps what it has read, so that no byte of a word is read twice.
+    /// unfinished request the reader keeps what it has read, and how far it has searched a line, so that no byte of a
+    /// word is read twice.
     ///
-    /// `NoMem` comes inside a request alone. It leaves all requests, so the call may be tried again. A fault of the
-    /// wire is found at the first byte that shows it. It comes again at each further call, whatever is fed.
+    /// `NoMem` comes alone inside an array that has words, and at the end of a line that has words. It leaves all
+    /// requests, so the call may be tried again. A fault of the wire is found at the first byte that shows it. It comes
+    /// again at each further call, whatever is fed.
     pub fn next(&mut self) -> Result<Option<Blobs>, NextFault>
         ensures some { IfOk result (λ got. IfSome got (λ words.
             Reads self.old words self.new
@@ -80,7 +86,7 @@ impl Reader {
         ensures memory { IfErr result (λ e. AsksInside self.new e) }
         ensures err { OnErr result (Reads self.old [] self.new) }
     {
-        if !begin(&self.buf, &mut self.pending)? {
+        if !begin(self.alloc, &self.buf, &mut self.pending)? {
             return Ok(None);
         }
         if !read_words(self.alloc, &self.buf, &mut self.pending)? {
@@ -91,7 +97,8 @@ impl Reader {
         Ok(Some(words))
     }
 
-    /// How many bytes are left of an unfinished request; `None` where the input ended behind a request.
+    /// How many bytes are left of an unfinished request; `None` where the input ended behind a request. The place of its
+    /// first byte in the input is the number of bytes fed in all less these.
     pub fn finish(&self) -> Option<usize>
         ensures left { MatchOption result
             (self.now ≡ [])

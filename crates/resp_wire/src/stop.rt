@@ -10,8 +10,10 @@ pub enum FaultKind {
     BadMark,
     /// What follows a `*` or `$` is no number as it is written here.
     BadLength,
-    /// More words or bytes than a request may have.
+    /// More words or bytes than a request or an inline line may have.
     TooLong,
+    /// A `"` or `'` in an inline line, which has no quoted words here.
+    Quote,
 }
 
 /// Why there is no next request.
@@ -19,8 +21,9 @@ pub enum FaultKind {
 pub enum NextFault {
     /// Want of memory. All bytes are kept, so the call may be tried again.
     NoMem,
-    /// A fault, and how many of the bytes fed so far stand from its place on. It comes again at each further call.
-    /// The place is the wrong byte for `BadMark`, and else the `*` or `$` before the number.
+    /// A fault, and how many of the bytes fed so far stand from its place on: its place in the input, from 0, is the
+    /// number of bytes fed in all less these. It comes again at each further call. The place is the wrong byte for
+    /// `BadMark` and `Quote`, for `TooLong` of an inline line its first byte, and else the `*` or `$` before the number.
     Wire(FaultKind, usize),
 }
 

@@ -1,46 +1,10 @@
 use super::{write_error, write_reply};
+use crate::paper::Paper;
 use kv_base::{Blob, Items, NoMem};
-use kv_outside::{Failed, Outlet, Sink};
+use kv_outside::{Failed, Outlet};
 use redis_model::{Reply, ReplyError, TypeWord};
 use std::alloc::Global;
 use std::process::Abort;
-
-/// A sink that takes at most three bytes at a time, and fails once its room is used up.
-#[derive(Drop)]
-struct Paper {
-    bytes: Vec<u8>,
-    room: usize,
-    faults: u64,
-}
-
-impl Paper {
-    fn new(alloc: Global, room: usize) -> Paper {
-        Paper {
-            bytes: Vec::new(alloc),
-            room,
-            faults: 0,
-        }
-    }
-}
-
-impl Sink for Paper {
-    ghost use Rattle.std.specs.Prelude.{Some};
-
-    ghost held = { λ paper. Some paper.bytes.items };
-
-    ghost faults = { λ paper. paper.faults };
-
-    fn write(&mut self, piece: &[u8]) -> Result<usize, Failed> {
-        let count = piece.len().min(self.room).min(3);
-        let (front, _) = piece.split_at(count);
-        if count > 0 && self.bytes.extend_from_slice(front).is_ok() {
-            self.room -= count;
-            return Ok(count);
-        }
-        self.faults = self.faults.saturating_add(1);
-        Err(Failed)
-    }
-}
 
 fn bulk(alloc: Global, bytes: &[u8]) -> Result<Reply, NoMem> {
     Ok(Reply::Bulk(Blob::copy(alloc, bytes)?))

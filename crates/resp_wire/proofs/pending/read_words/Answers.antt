@@ -1,5 +1,5 @@
 use Rattle.std.proofs.Common.{arith}
-use Rattle.resp_wire.proofs.Words.{word_within, word_begins, request_stops, stop_read, stop_fault_inside}
+use Rattle.resp_wire.proofs.WordsRead.{word_within, word_begins, request_stops, stop_read, stop_fault_inside}
 use Rattle.resp_wire.proofs.pending.read_words.Goals as goal
 
 pub overflow_sub-pending : goal.overflow_sub-pending

@@ -1,4 +1,4 @@
-use Rattle.resp_wire.proofs.Words.{held_fed}
+use Rattle.resp_wire.proofs.WordsRead.{held_fed}
 use Rattle.resp_wire.proofs.reader.Reader.feed.Goals as goal
 
 pub invariant_of-self-2 : goal.invariant_of-self-2

@@ -1,5 +1,5 @@
 use Rattle.std.proofs.Common.{arith}
-use Rattle.resp_wire.proofs.Words.{handed_out}
+use Rattle.resp_wire.proofs.WordsRead.{handed_out}
 use Rattle.resp_wire.proofs.reader.Reader.next.Goals as goal
 
 pub returns-clause-some : goal.returns-clause-some

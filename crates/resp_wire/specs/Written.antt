@@ -1,11 +1,14 @@
 -- What is read of a text is what a client writes.
 use Rattle.std.proofs.Common.{◌≡◌, ℕ, zero, suc, ◌+◌, ◌-◌, ◌*◌, ◌/◌, ◌%◌, ◌^◌, ◌≤◌, ◌<◌, ◌⊎◌, Bool, true, false, cond, not, List, [], ◌∷◌, ◌++◌, length, take, drop, Some, None, Result, Ok, Err, refl, sym, ap, subst, ◌∙◌, append_assoc, arith, inl, inr}
-use Rattle.std.specs.Prelude.{◌==◌, nat_lt, All, sum_by, decimal}
-use Rattle.std.specs.List.{flat_map}
+use Rattle.std.specs.Prelude.{◌==◌, nat_lt, All, filter, sum_by, slice_index, decimal}
+use Rattle.std.specs.List.{flat_map, onto_first, slice_split}
+use Rattle.std.specs.Str.Lines.{strip_carriage_return}
 use Rattle.std.specs.Char.{is_ascii_digit}
 use Rattle.std.proofs.lemmas.Grind.{common_steps}
 use Rattle.std.proofs.lemmas.Fmt.{decimal_digit, decimal_step}
-use Rattle.std.proofs.lemmas.List.{take-append-drop, length-take}
+use Rattle.std.proofs.lemmas.Bool.{cases_Bool}
+use Rattle.std.proofs.lemmas.List.{take-append-drop, length-take, length-take-le}
+use Rattle.std.proofs.lemmas.List.Splits.{slice_split-cons_yes, slice_split-cons_no, length-slice_split}
 use Rattle.std.proofs.lemmas.List.Elements.{All-nil, All-cons}
 use Rattle.std.proofs.lemmas.List.Sums.{sum_by-cons}
 use Rattle.resp_wire.specs.declared.stop.FaultKind.TheVariants.{BadMark, BadLength, TooLong}
@@ -13,8 +16,12 @@ use Rattle.resp_wire.specs.declared.stop.Stop.{Stop}
 use Rattle.resp_wire.specs.declared.stop.Stop.TheVariants.{More, Bad}
 use Rattle.resp_wire.specs.declared.parts.Limit.{Limit}
 use Rattle.resp_wire.specs.declared.parts.Limit.TheVariants.{Words, Bytes}
-use Rattle.resp_wire.specs.Grammar.{◌>>=◌, star, dollar, carriage_return, line_feed, mark, line_end, exceeds, with_digit, text_end, length_from, length_text, body, bulk, bulks, minus_one, count, header, request}
-use Rattle.resp_wire.specs.Encoding.{small, length_line, word_text, null_text, cost, OnlyTextsAreRead}
+use Rattle.resp_wire.specs.Grammar.{Part, End, requests, after_request, ◌>>=◌, star, dollar, carriage_return, line_feed, mark, line_end, exceeds, with_digit, text_end, length_from, length_text, body, bulk, bulks, minus_one, count, array, is_blank, is_word, line, line_words, inline, request}
+use Rattle.resp_wire.specs.Lines.{line_written}
+use Rattle.resp_wire.specs.Reading.{Reads}
+use Rattle.resp_wire.specs.Behind.{Shortens, request_shortens}
+use Rattle.resp_wire.specs.Requests.{requests_is}
+use Rattle.resp_wire.specs.Encoding.{small, length_line, word_text, request_text, null_text, cost, IsWithinLimits, IsRequest, OnlyTextsAreRead, WordsAreWithinLimits}
 
 -- ---- what a part that was read goes back to
 
@@ -170,7 +177,7 @@ bulks_written (suc n) room bytes words rest e =
     let P : List (List ℕ) × List ℕ → Type 0 = λ x. Written (suc n) room bytes x.0 x.1 in
     subst P same (one_more n room bytes first.0.0 first.0.1 others.0.0 others.0.1 (bulk_written room bytes first.0.0 first.0.1 first.1.0) (bulks_written n (room - (length first.0.0 + 16)) first.0.1 others.0.0 others.0.1 others.1.0))
 
--- ---- requests
+-- ---- arrays
 
 minus_one_written : (left : ℕ) (bytes : List ℕ) (n : ℕ) (rest : List ℕ) → minus_one left bytes ≡ Ok (n, rest) → (n ≡ 0) × (bytes ≡ 49 ∷ carriage_return ∷ line_feed ∷ rest)
 unfolding minus_one
@@ -181,10 +188,10 @@ minus_one_written left (c ∷ bytes) n rest e =
     let is : c ≡ 49 = (let t = found.0 in grind (arith, common_steps)) in
     (sym ended.0, ap (λ (b : ℕ). b ∷ bytes) is ∙ ap (λ (b : List ℕ). 49 ∷ b) ended.1)
 
-abbrev HeaderWritten : List ℕ → ℕ → List ℕ → Type 0
-HeaderWritten bytes n rest = ((exceeds Words n ≡ false) × (bytes ≡ length_line star n ++ rest)) ⊎ ((n ≡ 0) × (bytes ≡ null_text ++ rest))
+abbrev CountWritten : List ℕ → ℕ → List ℕ → Type 0
+CountWritten bytes n rest = ((exceeds Words n ≡ false) × (star ∷ bytes ≡ length_line star n ++ rest)) ⊎ ((n ≡ 0) × (star ∷ bytes ≡ null_text ++ rest))
 
-count_written : (bytes : List ℕ) (n : ℕ) (rest : List ℕ) → count bytes ≡ Ok (n, rest) → HeaderWritten (star ∷ bytes) n rest
+count_written : (bytes : List ℕ) (n : ℕ) (rest : List ℕ) → count bytes ≡ Ok (n, rest) → CountWritten bytes n rest
 unfolding count
 count_written [] n rest e = absurd cc
 count_written (c ∷ bytes) n rest e = elim (if_ok (c == 45) (minus_one (length bytes + 2) bytes) (length_text Words (c ∷ bytes)) (n, rest) e) [
@@ -197,13 +204,6 @@ count_written (c ∷ bytes) n rest e = elim (if_ok (c == 45) (minus_one (length 
       inl (found.0, ap (λ (b : List ℕ). star ∷ b) (found.1 ∙ sym (append_assoc (decimal n) (carriage_return ∷ line_feed ∷ []) rest)))
 ]
 
-header_written : (bytes : List ℕ) (n : ℕ) (rest : List ℕ) → header bytes ≡ Ok (n, rest) → HeaderWritten bytes n rest
-unfolding header
-header_written bytes n rest e =
-    let marked = then_ok (mark star bytes) count (n, rest) e in
-    let P : List ℕ → Type 0 = λ b. HeaderWritten b n rest in
-    subst P (sym (mark_written star bytes marked.0 marked.1.0)) (count_written marked.0 n rest marked.1.1)
-
 nothing_written : (n room : ℕ) (bytes : List ℕ) (words : List (List ℕ)) (rest : List ℕ) → n ≡ 0 → bulks n room bytes ≡ Ok (words, rest) → (words ≡ []) × (bytes ≡ rest)
 unfolding bulks
 nothing_written zero room bytes words rest none e =
@@ -211,20 +211,131 @@ nothing_written zero room bytes words rest none e =
     (sym (ap (λ (x : List (List ℕ) × List ℕ). x.0) same), ap (λ (x : List (List ℕ) × List ℕ). x.1) same)
 nothing_written (suc n) room bytes words rest none e = absurd (omega arith)
 
-pub only_texts_are_read : OnlyTextsAreRead
-unfolding request
-only_texts_are_read bytes words rest e =
-    let headed = then_ok (header bytes) (λ n. bulks n.0 16777216 n.1) (words, rest) e in
-    elim (header_written bytes headed.0.0 headed.0.1 headed.1.0) [
+-- ---- inline lines
+
+first_of : (c : ℕ) (bytes text rest : List ℕ) → (c == star) ≡ false → c ∷ bytes ≡ text ++ line_feed ∷ rest → slice_index text 0 ≡ star → ⊥
+first_of c bytes [] rest other e first = absurd (omega arith)
+first_of c bytes (d ∷ text) rest other e first = let same : c ≡ d = cc in grind (arith, common_steps)
+
+-- a part takes one more than its length of its line
+abbrev part_cost : List ℕ → ℕ
+part_cost part = length part + 1
+
+parts_of : (c : ℕ) (parts : List (List ℕ)) → 0 < length parts → sum_by part_cost (onto_first c parts) ≡ sum_by part_cost parts + 1
+parts_of c [] some = absurd (omega arith)
+parts_of c (part ∷ parts) some = rw (sum_by-cons, sum_by-cons) (omega arith)
+
+some_parts : (p : ℕ → Bool) (text : List ℕ) → 0 < length (slice_split p text)
+some_parts p text = rw (length-slice_split p text) (omega arith)
+
+split_cost : (p : ℕ → Bool) (text : List ℕ) → sum_by part_cost (slice_split p text) ≡ length text + 1
+split_cost p [] = refl
+split_cost p (c ∷ text) = elim (cases_Bool (p c)) [
+  | inl h ↦ ap (sum_by part_cost) (slice_split-cons_yes p c text h) ∙ sum_by-cons part_cost [] (slice_split p text) ∙ omega (arith, split_cost p text)
+  | inr h ↦ ap (sum_by part_cost) (slice_split-cons_no p c text h) ∙ parts_of c (slice_split p text) (some_parts p text) ∙ omega (arith, split_cost p text)
+]
+
+-- words that are not empty, by what their parts take
+record Few (words : List (List ℕ)) (total : ℕ) : Type 0 where
+  count : 2 * length words ≤ total
+  each : All (λ word. length word ≤ total) words
+  all : sum_by cost words ≤ 9 * total
+
+few : (parts : List (List ℕ)) (total : ℕ) → sum_by part_cost parts ≤ total → Few (filter is_word parts) total
+few [] total h = record { count = omega arith; each = All-nil (λ word. length word ≤ total); all = omega arith }
+few ([] ∷ parts) total h = let less = rw sum_by-cons at h in few parts total (omega arith)
+few ((c ∷ word) ∷ parts) total h =
+    let less : length word + 2 + sum_by part_cost parts ≤ total = (let k = rw sum_by-cons at h in omega arith) in
+    let later = few parts (total - (length word + 2)) (omega arith) in
+    record {
+      count = omega (arith, later.count);
+      each = All-cons (λ w. length w ≤ total) (c ∷ word) (filter is_word parts) (omega arith) (λ k d lt. let le = later.each k d lt in omega arith);
+      all = rw sum_by-cons (omega (arith, later.all));
+    }
+
+stripped : (text : List ℕ) → length (strip_carriage_return text) ≤ length text
+stripped text = grind (arith, common_steps, length-take-le)
+
+-- the words of a line that is no longer than it may be are within the limits of a request
+line_words_within : (text : List ℕ) → length text ≤ 65536 → IsWithinLimits (line_words text)
+unfolding line_words
+line_words_within text fits =
+    let small = few (slice_split is_blank (strip_carriage_return text)) 65537 (omega (arith, split_cost is_blank (strip_carriage_return text), stripped text)) in
+    record { count = omega (arith, small.count); each = λ k d lt. let le = small.each k d lt in omega arith; all = omega (arith, small.all) }
+
+-- ---- requests
+
+abbrev RequestWritten : List ℕ → List (List ℕ) → List ℕ → Type 0
+RequestWritten bytes words rest = IsWithinLimits words × ((text : List ℕ) × IsRequest words text × (bytes ≡ text ++ rest))
+
+no_words : IsWithinLimits []
+no_words = record { count = omega arith; each = All-nil (λ (w : List ℕ). length w ≤ 1048576); all = omega arith }
+
+array_written : (bytes : List ℕ) (words : List (List ℕ)) (rest : List ℕ) → array bytes ≡ Ok (words, rest) → RequestWritten (star ∷ bytes) words rest
+unfolding array
+array_written bytes words rest e =
+    let counted = then_ok (count bytes) (λ n. bulks n.0 16777216 n.1) (words, rest) e in
+    elim (count_written bytes counted.0.0 counted.0.1 counted.1.0) [
       | inl plain ↦
-          let found = bulks_written headed.0.0 16777216 headed.0.1 words rest headed.1.1 in
-          let few : headed.0.0 ≤ 65536 = (let t = plain.0 in grind (arith, common_steps)) in
-          inl (
+          let found = bulks_written counted.0.0 16777216 counted.0.1 words rest counted.1.1 in
+          let few : counted.0.0 ≤ 65536 = (let t = plain.0 in grind (arith, common_steps)) in (
             record { count = omega (arith, found.count); each = found.each; all = found.all },
-            plain.1 ∙ ap (λ (k : ℕ). length_line star k ++ headed.0.1) (sym found.count) ∙ ap (λ (b : List ℕ). length_line star (length words) ++ b) found.is
-                ∙ sym (append_assoc (length_line star (length words)) (flat_map word_text words) rest),
+            (
+              request_text words,
+              inl refl,
+              plain.1 ∙ ap (λ (k : ℕ). length_line star k ++ counted.0.1) (sym found.count) ∙ ap (λ (b : List ℕ). length_line star (length words) ++ b) found.is
+                  ∙ sym (append_assoc (length_line star (length words)) (flat_map word_text words) rest),
+            ),
           )
       | inr null ↦
-          let found = nothing_written headed.0.0 16777216 headed.0.1 words rest null.0 headed.1.1 in
-          inr (found.0, null.1 ∙ ap (λ (b : List ℕ). null_text ++ b) found.1)
+          let found = nothing_written counted.0.0 16777216 counted.0.1 words rest null.0 counted.1.1 in
+          (subst IsWithinLimits (sym found.0) no_words, (null_text, inr (inl (found.0, refl)), null.1 ∙ ap (λ (b : List ℕ). null_text ++ b) found.1))
     ]
+
+inline_written : (c : ℕ) (bytes : List ℕ) (words : List (List ℕ)) (rest : List ℕ) → (c == star) ≡ false → inline (c ∷ bytes) ≡ Ok (words, rest) → RequestWritten (c ∷ bytes) words rest
+unfolding inline
+inline_written c bytes words rest other e =
+    let found = then_ok (line (c ∷ bytes)) (λ found. Ok (line_words found.0, found.1)) (words, rest) e in
+    let same : (line_words found.0.0, found.0.1) ≡ (words, rest) = same_ok (line_words found.0.0, found.0.1) (words, rest) found.1.1 in
+    let P : List (List ℕ) × List ℕ → Type 0 = λ x. RequestWritten (c ∷ bytes) x.0 x.1 in
+    let ended = line_written (c ∷ bytes) found.0.0 found.0.1 found.1.0 in
+    let first : slice_index found.0.0 0 ≡ star → ⊥ = first_of c bytes found.0.0 found.0.1 other ended.is in
+    subst P same (
+      line_words_within found.0.0 ended.fits,
+      (
+        found.0.0 ++ line_feed ∷ [],
+        inr (inr (record { front = found.0.0; is_line = record { fits = ended.fits; plain = ended.plain; first = first }; has = refl; is = refl })),
+        ended.is ∙ sym (append_assoc found.0.0 (line_feed ∷ []) found.0.1),
+      ),
+    )
+
+pub only_texts_are_read : OnlyTextsAreRead
+unfolding request
+only_texts_are_read [] words rest e = absurd cc
+only_texts_are_read (c ∷ bytes) words rest e = elim (if_ok (c == 42) (array bytes) (inline (c ∷ bytes)) (words, rest) e) [
+  | inl read ↦
+      let is : c ≡ 42 = (let t = read.0 in grind (arith, common_steps)) in
+      let P : ℕ → Type 0 = λ b. RequestWritten (b ∷ bytes) words rest in
+      subst P (sym is) (array_written bytes words rest read.1)
+  | inr read ↦ inline_written c bytes words rest read.0 read.1
+]
+
+-- ---- all requests of a text
+
+within_after : (bytes : List ℕ) (r : Part (List (List ℕ))) → request bytes ≡ r → Shortens bytes r → ((rest : List ℕ) → length rest < length bytes → All IsWithinLimits (requests rest).0) → All IsWithinLimits (after_request requests bytes r).0
+within_after bytes (Ok ([], rest)) e s others = others rest s.1
+within_after bytes (Ok (word ∷ words, rest)) e s others = All-cons IsWithinLimits (word ∷ words) (requests rest).0 (only_texts_are_read bytes (word ∷ words) rest e).0 (others rest s.1)
+within_after bytes (Err More) e s others = All-nil IsWithinLimits
+within_after bytes (Err (Bad kind left)) e s others = All-nil IsWithinLimits
+
+within_shorter : (n : ℕ) (bytes : List ℕ) → length bytes < n → All IsWithinLimits (requests bytes).0
+within_shorter zero bytes h = absurd (omega arith)
+within_shorter (suc n) bytes h = subst (λ (found : List (List (List ℕ)) × End). All IsWithinLimits found.0) (sym (requests_is bytes)) (within_after bytes (request bytes) refl (request_shortens bytes) (λ rest lt. within_shorter n rest (omega arith)))
+
+pub words_are_within_limits : WordsAreWithinLimits
+words_are_within_limits bytes = within_shorter (length bytes + 1) bytes (omega arith)
+
+-- the words that a reader hands out
+pub reads_within_limits : (old : List ℕ) (words : List (List ℕ)) (new : List ℕ) → Reads old words new → IsWithinLimits words
+reads_within_limits old [] new reads = no_words
+reads_within_limits old (word ∷ words) new reads = subst (λ (found : List (List (List ℕ)) × End). All IsWithinLimits found.0) (reads []) (words_are_within_limits (old ++ [])) 0 [] (omega arith)
