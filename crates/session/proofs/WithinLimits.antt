@@ -1,0 +1,11 @@
+-- What a reader hands out is within the wire's limits.
+use Rattle.std.proofs.Common.{◌<◌, List, length, Option, Some, None, Ok, IfSome}
+use Rattle.std.specs.Prelude.{IfNone, []}
+use Rattle.kv_base.specs.Map.{Bytes}
+use Rattle.resp_wire.specs.Reading.{Reads, IsUnfinished}
+use Rattle.resp_wire.specs.Written.{reads_within_limits}
+use Rattle.session.specs.Serving.{NextAs}
+
+pub next_within : (old new : Bytes) (got : Option (List Bytes)) → IfSome got (λ words. Reads old words new × (length new < length old) × (0 < length words)) → IfNone got (Reads old [] new × IsUnfinished new) → NextAs old new (Ok got)
+next_within old new None some none = none
+next_within old new (Some words) some none = (some.0, some.1, some.2, reads_within_limits old words new some.0)

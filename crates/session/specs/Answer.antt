@@ -1,0 +1,66 @@
+-- The bytes of an answer. The texts are this server's own where Redis has no such answer.
+use Rattle.std.specs.Prelude.{ℕ, ◌++◌, codes, decimal, Result, Ok, Err}
+use Rattle.kv_base.specs.Map.{Bytes}
+use Rattle.kv_base.specs.declared.name.FileName.{FileName}
+use Rattle.kv_base.specs.declared.name.FileName.TheVariants as file
+use Rattle.redis_model.specs.declared.desk.DeskFault.{DeskFault}
+use Rattle.redis_model.specs.declared.desk.DeskFault.TheVariants as desk
+use Rattle.redis_model.specs.declared.reply.Reply.{Reply}
+use Rattle.redis_model.specs.Render.{render, line_end}
+use Rattle.session.specs.declared.answer.Answer.{Answer}
+use Rattle.session.specs.declared.answer.Answer.TheVariants as answer
+use Rattle.session.specs.declared.parse.Name.{Name}
+use Rattle.session.specs.declared.parse.Name.TheVariants.{Ping, Get, Set}
+use Rattle.session.specs.declared.parse.Refusal.{Refusal}
+use Rattle.session.specs.declared.parse.Refusal.TheVariants.{Unknown, Arity, TooLong}
+
+-- an error of RESP2
+abbrev pub error_line : Bytes → Bytes
+error_line text = codes "-" ++ text ++ line_end
+
+-- ---- words that ask for nothing
+
+abbrev pub name_text : Name → Bytes
+name_text Ping = codes "ping"
+name_text Get = codes "get"
+name_text Set = codes "set"
+
+abbrev pub refusal_text : Refusal → Bytes
+refusal_text Unknown = codes "ERR unknown command"
+refusal_text (Arity name) = codes "ERR wrong number of arguments for '" ++ name_text name ++ codes "' command"
+refusal_text TooLong = codes "ERR word too long"
+
+abbrev pub refusal_line : Refusal → Bytes
+refusal_line refusal = error_line (refusal_text refusal)
+
+-- ---- a desk without a reply
+
+-- the name of a file in its folder
+abbrev pub file_text : FileName → Bytes
+file_text file.SlotA = codes "slot-a"
+file_text file.SlotB = codes "slot-b"
+file_text (file.Segment n) = codes "wal-" ++ decimal n
+file_text (file.Table id) = codes "t-" ++ decimal id.run ++ codes "-" ++ decimal id.part
+
+abbrev pub damage_line : FileName → ℕ → Bytes
+damage_line name place = error_line (codes "DAMAGED " ++ file_text name ++ codes " " ++ decimal place)
+
+abbrev pub fault_line : DeskFault → Bytes
+fault_line desk.IoError = error_line (codes "IOERR a file call failed")
+fault_line desk.NoMem = error_line (codes "NOMEM no memory")
+fault_line (desk.Damaged name place) = damage_line name place
+fault_line desk.SeqFull = error_line (codes "ERR sequence exhausted")
+fault_line desk.TooBig = error_line (codes "ERR batch too large")
+fault_line desk.Busy = error_line (codes "BUSY another job is open")
+
+-- ---- an answer
+
+unfoldable pub say : Answer → Bytes
+say (answer.Reply reply) = render reply
+say (answer.Refused refusal) = refusal_line refusal
+say (answer.Fault fault) = fault_line fault
+
+-- what a desk answered
+abbrev pub answered : Result Reply DeskFault → Answer
+answered (Ok reply) = answer.Reply reply
+answered (Err fault) = answer.Fault fault
