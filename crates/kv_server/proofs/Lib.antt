@@ -1,6 +1,10 @@
-mod Kept
-pub mod Waiting
-pub mod Turns
-pub mod Serving
-pub mod Run
+pub mod Appending
+pub mod Entries
 pub mod Output
+pub mod Planning
+pub mod Replaying
+pub mod Running
+pub mod Serving
+pub mod Staying
+pub mod Talk
+pub mod ToldDesk

@@ -1,16 +1,12 @@
--- The state that a store stands for, and its calls.
-use Rattle.std.specs.Prelude.{◌≡◌, ℕ, List, [], ◌∷◌, Some, None, Result, Ok, Err}
+-- The state that a store stands for, and what it answers.
+use Rattle.std.specs.Prelude.{◌≡◌, ℕ, List, [], ◌∷◌, None}
 use Rattle.kv_base.specs.Map.{Bytes, empty, insert}
-use Rattle.kv_base.specs.declared.memory.NoMem.{NoMem}
-use Rattle.redis_model.specs.declared.command.Command.{Command}
-use Rattle.redis_model.specs.declared.history.Step.TheVariants.{Call}
-use Rattle.redis_model.specs.declared.reply.Reply.{Reply}
 use Rattle.redis_model.specs.Value.{Str, Entry, RedisMap}
-use Rattle.redis_model.specs.Apply.{apply, due}
-use Rattle.redis_model.specs.Machine.{State, step}
-use Rattle.kv_server.specs.declared.parse.Asked.{Asked}
+use Rattle.redis_model.specs.Machine.{State}
+use Rattle.redis_model.specs.Apply.{apply}
+use Rattle.redis_model.specs.declared.command.Command.{Command}
+use Rattle.redis_model.specs.declared.reply.Reply.{Reply}
 use Rattle.kv_server.specs.declared.store.Store.{Store}
-use Rattle.kv_server.specs.Words.{meant}
 
 -- a string that never expires
 abbrev pub lasting : Bytes → Entry
@@ -26,11 +22,6 @@ keys_of store = map_of store.values.entries
 abbrev pub state_of : Store → State
 state_of store = record { keys = keys_of store; floor = store.floor; pins = [] }
 
--- what is asked has this reply and leaves these keys, at any moment and whatever its words weigh
-abbrev pub Answers : RedisMap → Asked → Reply → RedisMap → Type 0
-Answers old asked reply new = (t weight : ℕ) → apply old t (meant asked weight) ≡ (reply, new)
-
--- one call by the only caller, unless memory ran out
-abbrev pub Calls : State → ℕ → Command → Result Reply NoMem → State → Type 0
-Calls old now command (Ok reply) new = step old (Call now 0 (due now command)) ≡ (Some reply, new)
-Calls old now command (Err e) new = new ≡ old
+-- the command has this reply and leaves these keys, at any moment
+abbrev pub Answers : RedisMap → Command → Reply → RedisMap → Type 0
+Answers old c reply new = (t : ℕ) → apply old t c ≡ (reply, new)

@@ -1,13 +1,14 @@
 //! The programs of the server, as calls over what they meet outside.
 #![tactic(auto)]
 
-mod parse;
-mod session;
+mod answer;
+mod desk;
+mod keeper;
+mod kept;
+mod open;
 mod store;
 mod top;
 
-pub use parse::{Asked, Name, Refusal};
-pub use session::Outcome;
 pub use top::top_script;
 
 #[cfg(test)]

@@ -1,55 +1,9 @@
-use Rattle.std.proofs.Common.{◌∙◌, [], refl, arith}
-use Rattle.kv_server.specs.Store.{state_of}
-use Rattle.kv_server.proofs.Run.{run_begins, run_closes, run_on, run_stops_at, run_spent, pull_stops, pull_caused, attend_caused, still_unfinished, pulled_few, pulled_on}
-use Rattle.kv_outside.specs.Taken.{nothing_taken}
+use Rattle.kv_server.proofs.Running.{served_run}
 use Rattle.kv_server.proofs.top.run.Goals as goal
 
-pub loop-taken-init : goal.loop-taken-init
-loop-taken-init g c = record {
-  run = run_begins (g.C.Clock.readings c.args.clock.now) (g.S.Source.left c.args.source.now) (g.K.Sink.held c.args.sink.now) (state_of c.new-store.result) c.new-outlet.result.bytes c.new-reader.result c.new-store.ensures c.new-outlet.ensures.bytes c.new-reader.ensures;
-  within = omega arith;
-  ended = refl;
-  source = omega arith;
-  sink = omega arith;
-}
-
-pub returns-in-Err-clause-session : goal.returns-in-Err-clause-session
-returns-in-Err-clause-session g c =
-    pull_stops (g.C.Clock.readings c.args.clock.now) (g.C.Clock.readings c.loop-taken.clock) (g.S.Source.left c.args.source.now) (g.S.Source.left c.loop-taken.source) (g.S.Source.left c.pull.new.source) (g.K.Sink.held c.args.sink.now) (g.K.Sink.held c.loop-taken.sink) (state_of c.loop-taken.store) c.loop-taken.outlet.bytes c.loop-taken.reader c.pull.new.reader c.loop-taken.taken _ _ _ (g.S.Source.ended c.args.source.now) _ _ c.in-Err.outcome c.loop-taken.invariant.run c.in-Err.ensures.pulled
-
-pub returns-in-Err-clause-caused : goal.returns-in-Err-clause-caused
-returns-in-Err-clause-caused g c =
-    pull_caused (g.S.Source.left c.loop-taken.source) (g.S.Source.left c.pull.new.source) c.loop-taken.reader c.pull.new.reader _ (g.S.Source.faults c.args.source.now) (g.S.Source.faults c.loop-taken.source) (g.S.Source.faults c.pull.new.source) (g.K.Sink.faults c.args.sink.now) (g.K.Sink.faults c.loop-taken.sink) _ _ c.in-Err.outcome c.in-Err.ensures.pulled c.loop-taken.invariant.source
-
-pub finished-requires : goal.finished-requires
-finished-requires g c = still_unfinished (g.S.Source.left c.loop-taken.source) (g.S.Source.left c.pull.new.source) _ _ _ _ c.loop-taken.reader c.pull.new.reader _ c.in-Ok.count c.in-Ok.ensures.pulled c.if-count-eq0.true c.loop-taken.invariant.run.unfinished
-
-pub returns-then-count-eq0-clause-session : goal.returns-then-count-eq0-clause-session
-returns-then-count-eq0-clause-session g c =
-    run_closes (g.C.Clock.readings c.args.clock.now) (g.C.Clock.readings c.loop-taken.clock) (g.S.Source.left c.args.source.now) (g.S.Source.left c.loop-taken.source) (g.S.Source.left c.pull.new.source) (g.K.Sink.held c.args.sink.now) (g.K.Sink.held c.loop-taken.sink) (state_of c.loop-taken.store) c.loop-taken.outlet.bytes c.loop-taken.reader c.pull.new.reader c.loop-taken.taken c.in-Ok.count _ _ _ (g.S.Source.ended c.args.source.now) _ _ c.finished.result c.loop-taken.invariant.run c.in-Ok.ensures.pulled c.if-count-eq0.true c.finished.ensures
-
-pub overflow_add-taken : goal.overflow_add-taken
-overflow_add-taken g c = omega (arith, c.loop-taken.invariant.within, c.loop-taken-test.true, c.min-room.ensures, c.split_at_mut-piece.ensures.front_len, pulled_few (g.S.Source.left c.loop-taken.source) (g.S.Source.left c.pull.new.source) _ _ _ _ c.loop-taken.reader c.pull.new.reader _ c.in-Ok.count c.in-Ok.ensures.pulled)
-
-pub returns-in-Err-attend-clause-session : goal.returns-in-Err-attend-clause-session
-returns-in-Err-attend-clause-session g c =
-    rw c.outcome_of.ensures (run_stops_at (g.C.Clock.readings c.args.clock.now) (g.C.Clock.readings c.loop-taken.clock) (g.C.Clock.readings c.attend.new.clock) (g.S.Source.left c.args.source.now) (g.S.Source.left c.loop-taken.source) (g.S.Source.left c.pull.new.source) (g.K.Sink.held c.args.sink.now) (g.K.Sink.held c.loop-taken.sink) (g.K.Sink.held c.attend.new.sink) (state_of c.loop-taken.store) (state_of c.attend.new.store) c.loop-taken.outlet.bytes c.loop-taken.reader c.pull.new.reader c.attend.new.reader c.loop-taken.taken c.in-Ok.count _ _ _ _ _ (g.S.Source.ended c.args.source.now) _ _ c.in-Err-attend.stopped c.loop-taken.invariant.run c.in-Ok.ensures.pulled c.in-Err-attend.ensures.served)
-
-pub returns-in-Err-attend-clause-caused : goal.returns-in-Err-attend-clause-caused
-returns-in-Err-attend-clause-caused g c =
-    rw c.outcome_of.ensures (attend_caused (state_of c.loop-taken.store) (state_of c.attend.new.store) (g.C.Clock.readings c.loop-taken.clock) (g.C.Clock.readings c.attend.new.clock) (g.K.Sink.held c.loop-taken.sink) (g.K.Sink.held c.attend.new.sink) c.loop-taken.outlet.bytes c.pull.new.reader c.attend.new.reader (g.K.Sink.faults c.args.sink.now) (g.K.Sink.faults c.loop-taken.sink) (g.K.Sink.faults c.attend.new.sink) (g.S.Source.faults c.args.source.now) (g.S.Source.faults c.pull.new.source) c.in-Err-attend.stopped c.in-Err-attend.ensures.served c.loop-taken.invariant.sink)
-
-pub loop-taken-preserved : goal.loop-taken-preserved
-loop-taken-preserved g c =
-    let few = pulled_few (g.S.Source.left c.loop-taken.source) (g.S.Source.left c.pull.new.source) _ _ _ _ c.loop-taken.reader c.pull.new.reader _ c.in-Ok.count c.in-Ok.ensures.pulled in
-    record {
-      run = run_on (g.C.Clock.readings c.args.clock.now) (g.C.Clock.readings c.loop-taken.clock) (g.C.Clock.readings c.attend.new.clock) (g.S.Source.left c.args.source.now) (g.S.Source.left c.loop-taken.source) (g.S.Source.left c.pull.new.source) (g.K.Sink.held c.args.sink.now) (g.K.Sink.held c.loop-taken.sink) (g.K.Sink.held c.attend.new.sink) (state_of c.loop-taken.store) (state_of c.attend.new.store) c.loop-taken.outlet.bytes c.attend.new.outlet.bytes c.loop-taken.reader c.pull.new.reader c.attend.new.reader c.loop-taken.taken c.in-Ok.count _ _ _ _ _ _ _ _ c.loop-taken.invariant.run c.in-Ok.ensures.pulled c.in_default.ensures.served c.in_default.ensures.empty;
-      within = omega (arith, c.loop-taken.invariant.within, c.loop-taken-test.true, c.min-room.ensures, c.split_at_mut-piece.ensures.front_len, few);
-      ended = pulled_on (g.S.Source.left c.loop-taken.source) (g.S.Source.left c.pull.new.source) _ _ _ _ c.loop-taken.reader c.pull.new.reader _ c.in-Ok.count c.in-Ok.ensures.pulled (omega (arith, c.if-count-eq0.false)) ∙ c.loop-taken.invariant.ended;
-      source = omega (arith, c.loop-taken.invariant.source, c.in-Ok.ensures.later);
-      sink = omega (arith, c.loop-taken.invariant.sink, c.attend.ensures.later);
-    }
-
-pub returns-clause-session : goal.returns-clause-session
-returns-clause-session g c =
-    run_spent (g.C.Clock.readings c.args.clock.now) (g.C.Clock.readings c.loop-taken.clock) (g.S.Source.left c.args.source.now) (g.S.Source.left c.loop-taken.source) (g.S.Source.left c.loop-taken.source) (g.K.Sink.held c.args.sink.now) (g.K.Sink.held c.loop-taken.sink) (state_of c.loop-taken.store) c.loop-taken.outlet.bytes c.loop-taken.reader [] c.loop-taken.taken c.loop-taken.invariant.run (nothing_taken (g.S.Source.left c.loop-taken.source)) refl (g.S.Source.ended c.args.source.now) (g.S.Source.ended c.loop-taken.source) (omega (arith, c.loop-taken.invariant.within, c.loop-taken-test.false)) c.loop-taken.invariant.ended
+pub returns : goal.returns
+returns g c =
+    let served = c.serve-outcome.ensures in
+    let ended = c.finish.ensures in
+    served_run c.finish.result _ _ _ _ _ _ _ _ _ _ c.serve-outcome.result _ _ _ _ _ _ _ _ _ _ _ _
+    c.in-Ok.ensures.opened c.open.ensures.later served.later served.session served.caused ended.ends ended.kept ended.kept_or_more

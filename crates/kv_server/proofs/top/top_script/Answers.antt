@@ -1,19 +1,17 @@
-use Rattle.kv_server.proofs.Output.{closed_output, broken_output, protocol_output, whole_is_answered}
+use Rattle.kv_server.proofs.Running.{good_run, front_run, bad_run, damaged_run, whole_run}
 use Rattle.kv_server.proofs.top.top_script.Goals as goal
 
-pub returns-clause-output : goal.returns-clause-output
-returns-clause-output g c =
-    closed_output c.run.result c.status_of.result (g.C.Clock.readings c.args.clock.now) (g.C.Clock.readings c.run.new.clock) (g.S.Source.left c.args.source.now) (g.S.Source.left c.run.new.source) (g.K.Sink.held c.args.sink.now) (g.K.Sink.held c.run.new.sink) _ _ c.status_of.ensures c.run.ensures.session
+pub returns-clause-good : goal.returns-clause-good
+returns-clause-good g c = good_run _ _ _ _ _ _ _ _ _ _ _ _ _ _ _ _ _ c.run.ensures
 
 pub returns-clause-front : goal.returns-clause-front
-returns-clause-front g c =
-    broken_output c.run.result c.status_of.result (g.C.Clock.readings c.args.clock.now) (g.C.Clock.readings c.run.new.clock) (g.S.Source.left c.args.source.now) (g.S.Source.left c.run.new.source) (g.K.Sink.held c.args.sink.now) (g.K.Sink.held c.run.new.sink) _ _ c.status_of.ensures c.run.ensures.session
+returns-clause-front g c = front_run _ _ _ _ _ _ _ _ _ _ _ _ _ _ _ _ _ c.run.ensures
 
 pub returns-clause-protocol : goal.returns-clause-protocol
-returns-clause-protocol g c =
-    protocol_output c.run.result c.status_of.result (g.C.Clock.readings c.args.clock.now) (g.C.Clock.readings c.run.new.clock) (g.S.Source.left c.args.source.now) (g.S.Source.left c.run.new.source) (g.K.Sink.held c.args.sink.now) (g.K.Sink.held c.run.new.sink) _ _ c.status_of.ensures c.run.ensures.session
+returns-clause-protocol g c = bad_run _ _ _ _ _ _ _ _ _ _ _ _ _ _ _ _ _ c.run.ensures
+
+pub returns-clause-damaged : goal.returns-clause-damaged
+returns-clause-damaged g c = damaged_run _ _ _ _ _ _ _ _ _ _ _ _ _ _ _ _ _ c.run.ensures
 
 pub returns-clause-whole : goal.returns-clause-whole
-returns-clause-whole g c other =
-    whole_is_answered c.run.result c.status_of.result (g.C.Clock.readings c.args.clock.now) (g.C.Clock.readings c.run.new.clock) (g.S.Source.left c.args.source.now) (g.S.Source.left c.run.new.source) (g.K.Sink.held c.args.sink.now) (g.K.Sink.held c.run.new.sink) _ _
-    (g.S.Source.faults c.args.source.now) (g.S.Source.faults c.run.new.source) (g.K.Sink.faults c.args.sink.now) (g.K.Sink.faults c.run.new.sink) c.status_of.ensures c.run.ensures.session c.run.ensures.caused
+returns-clause-whole g c = λ other. whole_run _ _ _ _ _ _ _ _ _ _ _ _ _ _ _ _ _ c.run.ensures

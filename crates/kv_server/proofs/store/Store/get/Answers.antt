@@ -1,5 +1,5 @@
 use Rattle.std.proofs.Common.{◌∙◌, ap, Some, None}
-use Rattle.kv_server.proofs.Kept.{read-map_of}
+use Rattle.kv_server.proofs.Entries.{read-map_of}
 use Rattle.kv_server.proofs.store.Store.get.Goals as goal
 
 pub returns-in_ok-try_copy-in-Some : goal.returns-in_ok-try_copy-in-Some

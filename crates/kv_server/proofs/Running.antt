@@ -1,0 +1,174 @@
+-- What a run says, by its status.
+use Rattle.std.proofs.Common.{◌≡◌, ◌≢◌, ◌≤◌, ℕ, Bool, [], inl, inr, ◌⊎◌, ⊎_elim, refl, sym, subst, ◌∙◌, arith}
+use Rattle.kv_base.specs.declared.fault.StoreFault.{StoreFault}
+use Rattle.kv_base.specs.declared.fault.StoreFault.TheVariants as fault
+use Rattle.kv_outside.specs.Causes.{Rose, rose_since}
+use Rattle.kv_outside.specs.Disk.{Disk}
+use Rattle.redis_model.specs.Machine.{State}
+use Rattle.session.specs.declared.session.Outcome.{Outcome}
+use Rattle.session.specs.declared.session.Outcome.TheVariants as outcome
+use Rattle.session.specs.Session.{IsCaused}
+use Rattle.session.specs.Answer.{damage_line}
+use Rattle.kv_server.specs.Recover.{Recovered, state_from}
+use Rattle.kv_server.specs.Keeping.{KeptState, kept_keys, state_of_kept, FailsToOpen, IsKept, IsOpened, Keeps, KeepsOrMore}
+use Rattle.kv_server.specs.Script.{status, opening_status, unclosed_status, EndsWith, Tells, IsWritten, IsRun, IsGood, IsFront, IsDamageTold, EndsBadly, IsWhole, Ran, IsSession}
+use Rattle.kv_server.proofs.Output.{Known, closed_output, broken_output, protocol_output, whole_is_answered}
+
+-- ---- which status can be which
+
+opening_is : (f : StoreFault) → (opening_status f ≡ 2) ⊎ ((opening_status f ≡ 3) ⊎ (opening_status f ≡ 4))
+opening_is fault.Failed = inl refl
+opening_is (fault.Damaged file place) = inr (inl refl)
+opening_is fault.NoMem = inr (inr refl)
+
+unclosed_is : (o : Outcome) → (unclosed_status o ≡ 2) ⊎ (unclosed_status o ≡ status o)
+unclosed_is outcome.Closed = inl refl
+unclosed_is outcome.NoMem = inr refl
+unclosed_is outcome.ReadFault = inr refl
+unclosed_is outcome.WriteFault = inr refl
+unclosed_is outcome.Protocol = inr refl
+unclosed_is outcome.Spent = inr refl
+
+status_is_not : (o : Outcome) → (status o ≢ 1) × (status o ≢ 2) × (status o ≢ 3)
+status_is_not outcome.Closed = (omega arith, omega arith, omega arith)
+status_is_not outcome.NoMem = (omega arith, omega arith, omega arith)
+status_is_not outcome.ReadFault = (omega arith, omega arith, omega arith)
+status_is_not outcome.WriteFault = (omega arith, omega arith, omega arith)
+status_is_not outcome.Protocol = (omega arith, omega arith, omega arith)
+status_is_not outcome.Spent = (omega arith, omega arith, omega arith)
+
+pub unclosed_is_not_0 : (o : Outcome) → unclosed_status o ≢ 0
+unclosed_is_not_0 outcome.Closed = omega arith
+unclosed_is_not_0 outcome.NoMem = omega arith
+unclosed_is_not_0 outcome.ReadFault = omega arith
+unclosed_is_not_0 outcome.WriteFault = omega arith
+unclosed_is_not_0 outcome.Protocol = omega arith
+unclosed_is_not_0 outcome.Spent = omega arith
+
+-- a status of a session that is not 2 is that of its outcome
+session_status : (o : Outcome) (n before now : ℕ) → EndsWith o n before now → n ≢ 2 → n ≡ status o
+session_status o n before now (inl is) other = is
+session_status o n before now (inr closing) other = ⊎_elim (λ (two : unclosed_status o ≡ 2). absurd (other (closing.0 ∙ two))) (λ (same : unclosed_status o ≡ status o). closing.0 ∙ same) (unclosed_is o)
+
+-- a status of an opening that failed
+refused_status : (n : ℕ) (f : StoreFault) → n ≡ opening_status f → (n ≡ 2) ⊎ ((n ≡ 3) ⊎ (n ≡ 4))
+refused_status n f is = rw is (opening_is f)
+
+module _ (n : ℕ) (disk disk' : Disk) (files files' : ℕ) (a a' l l' h i : Known) (e e' : Bool) (s s' k k' : ℕ) where
+  pub good_run : IsRun n disk disk' files files' a a' l l' h i e e' s s' k k' → n ≡ 0 → IsGood disk disk' l a h i
+  good_run (inl r) zero = let is = refused_status n r.fault r.status in absurd (omega (arith, zero, is))
+  good_run (inr r) zero =
+      let is : n ≡ status r.outcome = session_status r.outcome n files files' r.ends (omega (arith, zero)) in
+      record { start = r.start; begins = r.begins; last = r.last; answered = closed_output r.outcome n (state_from r.start) r.last a a' l l' h i e e' is r.ran zero; kept = r.kept zero }
+
+  pub front_run : IsRun n disk disk' files files' a a' l l' h i e e' s s' k k' → n ≡ 6 → IsFront disk l a h i
+  front_run (inl r) six = let is = refused_status n r.fault r.status in absurd (omega (arith, six, is))
+  front_run (inr r) six =
+      let is : n ≡ status r.outcome = session_status r.outcome n files files' r.ends (omega (arith, six)) in
+      record { start = r.start; begins = r.begins; last = r.last; front = broken_output r.outcome n (state_from r.start) r.last a a' l l' h i e e' is r.ran six }
+
+  pub bad_run : IsRun n disk disk' files files' a a' l l' h i e e' s s' k k' → n ≡ 7 → EndsBadly l
+  bad_run (inl r) seven = let is = refused_status n r.fault r.status in absurd (omega (arith, seven, is))
+  bad_run (inr r) seven =
+      let is : n ≡ status r.outcome = session_status r.outcome n files files' r.ends (omega (arith, seven)) in
+      protocol_output r.outcome n (state_from r.start) r.last a a' l l' h i e e' is r.ran seven
+
+  told_damage : (f : StoreFault) → n ≡ opening_status f → FailsToOpen disk files files' f → Tells f h i k k' → n ≡ 3 → IsDamageTold disk h i k k'
+  told_damage fault.Failed is cause wrote three = absurd (omega (arith, is, three))
+  told_damage (fault.Damaged file place) is cause wrote three = record {
+    place = place;
+    damaged = record { bytes = cause.bytes; told = cause.told; is = cause.is; named = refl };
+    line = subst (λ name. IsWritten (damage_line name place) h i k k') cause.named wrote;
+  }
+  told_damage fault.NoMem is cause wrote three = absurd (omega (arith, is, three))
+
+  pub damaged_run : IsRun n disk disk' files files' a a' l l' h i e e' s s' k k' → n ≡ 3 → IsDamageTold disk h i k k'
+  damaged_run (inl r) three = told_damage r.fault r.status r.cause r.wrote three
+  damaged_run (inr r) three = absurd ((status_is_not r.outcome).2 (sym (session_status r.outcome n files files' r.ends (omega (arith, three))) ∙ three))
+
+  opening_cause : (f : StoreFault) → n ≡ opening_status f → FailsToOpen disk files files' f → n ≡ 2 → Rose files files'
+  opening_cause fault.Failed is cause two = cause
+  opening_cause (fault.Damaged file place) is cause two = absurd (omega (arith, is, two))
+  opening_cause fault.NoMem is cause two = absurd (omega (arith, is, two))
+
+  closing_cause : (o : Outcome) → EndsWith o n files files' → n ≡ 2 → Rose files files'
+  closing_cause o (inl is) two = absurd ((status_is_not o).1 (sym is ∙ two))
+  closing_cause o (inr closing) two = closing.1
+
+  pub files_run : IsRun n disk disk' files files' a a' l l' h i e e' s s' k k' → n ≡ 2 → Rose files files'
+  files_run (inl r) two = opening_cause r.fault r.status r.cause two
+  files_run (inr r) two = closing_cause r.outcome r.ends two
+
+  input_cause : (o : Outcome) → n ≡ status o → IsCaused o s s' k k' → n ≡ 5 → Rose s s'
+  input_cause outcome.ReadFault is c five = c
+  input_cause outcome.Closed is c five = absurd (omega (arith, is, five))
+  input_cause outcome.NoMem is c five = absurd (omega (arith, is, five))
+  input_cause outcome.WriteFault is c five = absurd (omega (arith, is, five))
+  input_cause outcome.Protocol is c five = absurd (omega (arith, is, five))
+  input_cause outcome.Spent is c five = absurd (omega (arith, is, five))
+
+  pub input_run : IsRun n disk disk' files files' a a' l l' h i e e' s s' k k' → n ≡ 5 → Rose s s'
+  input_run (inl r) five = let is = refused_status n r.fault r.status in absurd (omega (arith, five, is))
+  input_run (inr r) five = input_cause r.outcome (session_status r.outcome n files files' r.ends (omega (arith, five))) r.caused five
+
+  output_cause : (o : Outcome) → n ≡ status o → IsCaused o s s' k k' → n ≡ 6 → Rose k k'
+  output_cause outcome.WriteFault is c six = c
+  output_cause outcome.Closed is c six = absurd (omega (arith, is, six))
+  output_cause outcome.NoMem is c six = absurd (omega (arith, is, six))
+  output_cause outcome.ReadFault is c six = absurd (omega (arith, is, six))
+  output_cause outcome.Protocol is c six = absurd (omega (arith, is, six))
+  output_cause outcome.Spent is c six = absurd (omega (arith, is, six))
+
+  pub output_run : IsRun n disk disk' files files' a a' l l' h i e e' s s' k k' → n ≡ 6 → Rose k k'
+  output_run (inl r) six = let is = refused_status n r.fault r.status in absurd (omega (arith, six, is))
+  output_run (inr r) six = output_cause r.outcome (session_status r.outcome n files files' r.ends (omega (arith, six))) r.caused six
+
+  opened_or_not : (f : StoreFault) → n ≡ opening_status f → FailsToOpen disk files files' f → (Rose files files' → ⊥) → (n ≡ 0) ⊎ ((n ≡ 3) ⊎ (n ≡ 4))
+  opened_or_not fault.Failed is cause never = absurd (never cause)
+  opened_or_not (fault.Damaged file place) is cause never = inr (inl is)
+  opened_or_not fault.NoMem is cause never = inr (inr is)
+
+  closed_or_not : (o : Outcome) → EndsWith o n files files' → (Rose files files' → ⊥) → n ≡ status o
+  closed_or_not o (inl is) never = is
+  closed_or_not o (inr closing) never = absurd (never closing.1)
+
+  pub whole_run : IsRun n disk disk' files files' a a' l l' h i e e' s s' k k' → IsWhole l → (Rose files files' → ⊥) → (Rose s s' → ⊥) → (Rose k k' → ⊥) → (n ≡ 0) ⊎ ((n ≡ 3) ⊎ (n ≡ 4))
+  whole_run (inl r) whole never read written = opened_or_not r.fault r.status r.cause never
+  whole_run (inr r) whole never read written =
+      ⊎_elim (λ (zero : n ≡ 0). inl zero) (λ (four : n ≡ 4). inr (inr four))
+      (whole_is_answered r.outcome n (state_from r.start) r.last a a' l l' h i e e' s s' k k' (closed_or_not r.outcome r.ends never) r.ran r.caused whole read written)
+
+  not_one : IsRun n disk disk' files files' a a' l l' h i e e' s s' k k' → n ≢ 1
+  not_one (inl r) one = let is = refused_status n r.fault r.status in omega (arith, one, is)
+  not_one (inr r) one = (status_is_not r.outcome).0 (sym (session_status r.outcome n files files' r.ends (omega (arith, one))) ∙ one)
+
+  pub never_one : IsRun n disk disk' files files' a a' l l' h i e e' s s' k k' → n ≢ 1
+  never_one r = not_one r
+
+-- ---- the parts of a run
+
+same_start : (r : Recovered) (k : KeptState) → r.keys ≡ kept_keys k → r.floor ≡ k.floor → state_of_kept k ≡ state_from r
+same_start r k keys floor = λ j. record { keys = sym keys j; floor = sym floor j; pins = [] }
+
+ends_since : (o : Outcome) (n first before now : ℕ) → first ≤ before → EndsWith o n before now → EndsWith o n first now
+ends_since o n first before now later (inl is) = inl is
+ends_since o n first before now later (inr closing) = inr (closing.0, rose_since first before now later closing.1)
+
+pub served_run : (n : ℕ) (old opened ended new : Disk) (f0 f1 f2 f3 : ℕ) (k k' : KeptState) (o : Outcome) (a a' l l' h i : Known) (e e' : Bool) (s s' t t' : ℕ)
+    → IsOpened old opened k → f0 ≤ f1 → f1 ≤ f2
+    → (IsKept opened k → IsSession o k k' ended a a' l l' h i e e') → IsCaused o s s' t t'
+    → EndsWith o n f2 f3 → (n ≡ 0 → IsKept ended k' → Keeps new (kept_keys k')) → (IsKept ended k' → KeepsOrMore new (kept_keys k'))
+    → IsRun n old new f0 f3 a a' l l' h i e e' s s' t t'
+served_run n old opened ended new f0 f1 f2 f3 k k' o a a' l l' h i e e' s s' t t' opening later more session caused ends closed unclosed =
+    let went = session opening.keeps in
+    inr (record {
+      start = opening.state;
+      begins = opening.start;
+      last = state_of_kept k';
+      outcome = o;
+      ran = subst (λ (x : State). Ran o x (state_of_kept k') a a' l l' h i e e') (same_start opening.state k opening.keys opening.floor) went.ran;
+      caused = caused;
+      ends = ends_since o n f0 f2 f3 (omega (arith, later, more)) ends;
+      kept = λ zero. closed zero went.keeps;
+      kept_or_more = unclosed went.keeps;
+    })
