@@ -24,7 +24,7 @@ pub enum Asked<'a> {
     Serve(&'a str),
 }
 
-/// What the words behind the program's own name ask for, if they are on the grammar.
+/// What the words behind the program's own name ask for, if they are on the grammar. It takes no memory.
 pub fn judge(words: &[String]) -> Option<Asked<'_>>
     ensures { option_map owned result ≡ asked_by (map (λ word. string_bytes word) words.now) }
 {

@@ -7,4 +7,5 @@ mod asked;
 mod options;
 mod words;
 
+pub use asked::{Asked, Load, judge};
 pub use words::{Words, WordsFault, read_words};
