@@ -1,0 +1,3 @@
+pub mod DeadlineLaws
+pub mod MetaKeys
+pub mod Metas

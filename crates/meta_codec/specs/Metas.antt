@@ -1,0 +1,39 @@
+-- What metadata says.
+use Rattle.std.specs.Prelude.{ℕ, ◌-◌, nat_lt, nat_le, Bool, ◌&&◌, Option, Some, None}
+use Rattle.kv_base.specs.MetaValues.{MetaValue, StringValue, LifeValue, ListValue}
+use Rattle.meta_codec.specs.declared.meta.Meta.{Meta}
+use Rattle.meta_codec.specs.declared.meta.Meta.TheVariants.{Str, Life, List}
+
+-- the metadata that a value of code stands for
+abbrev pub meta_value : Meta → MetaValue
+meta_value (Str expire payload) = StringValue expire payload
+meta_value (Life kind expire version size) = LifeValue kind expire version size
+meta_value (List expire version head tail) = ListValue expire version head tail
+
+-- the deadline, or 0 for none
+abbrev pub expire_of : MetaValue → ℕ
+expire_of (StringValue expire payload) = expire
+expire_of (LifeValue kind expire version size) = expire
+expire_of (ListValue expire version head tail) = expire
+
+-- the version of a collection's life
+abbrev pub version_of : MetaValue → Option ℕ
+version_of (StringValue expire payload) = None
+version_of (LifeValue kind expire version size) = Some version
+version_of (ListValue expire version head tail) = Some version
+
+-- the number of a collection's elements
+abbrev pub size_of : MetaValue → Option ℕ
+size_of (StringValue expire payload) = None
+size_of (LifeValue kind expire version size) = Some size
+size_of (ListValue expire version head tail) = Some (tail - head)
+
+-- there is a deadline, and it is at most the moment
+abbrev pub is_expired : ℕ → ℕ → Bool
+is_expired expire moment = nat_lt 0 expire && nat_le expire moment
+
+-- the same but for the deadline
+abbrev pub with_expire : ℕ → MetaValue → MetaValue
+with_expire expire (StringValue old payload) = StringValue expire payload
+with_expire expire (LifeValue kind old version size) = LifeValue kind expire version size
+with_expire expire (ListValue old version head tail) = ListValue expire version head tail

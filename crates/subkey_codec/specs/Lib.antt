@@ -1,0 +1,4 @@
+pub mod ElementKeys
+pub mod NumberLaws
+pub mod Numbers
+pub mod OrderLaws
