@@ -1,0 +1,4 @@
+mod Merges
+mod Places
+mod Sorts
+mod Sums

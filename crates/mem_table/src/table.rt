@@ -1,0 +1,168 @@
+ghost use Rattle.std.specs.Prelude.{◌≡◌, ◌==◌, ◌≤◌, ◌<◌, ◌-◌, ◌^◌, ℕ, [], IsTrue, IfOk, min, length, option_map, true, false};
+ghost use Rattle.std.specs.List.{slice_get};
+ghost use Rattle.std.specs.List.Sorted.{IsPartitionPoint};
+ghost use Rattle.kv_base.specs.Map.{empty};
+ghost use Rattle.batch_codec.specs.Batches.{after};
+ghost use Rattle.row_model.specs.Rows.{are_below, are_row_texts, are_upto, at as map_at, batch_rows, seen_at};
+ghost use Rattle.row_model.specs.Replays.{do_rise, last_from, replayed, rows_after};
+ghost use Rattle.row_model.specs.RowOrder.{is_below, is_ordered, merged};
+ghost use Rattle.row_model.specs.RowRefs.{row_seen};
+ghost use Rattle.mem_table.specs.Shared.{rows_of};
+ghost use Rattle.mem_table.specs.Weights.{rows_weight};
+
+use crate::merge::{copy_rows, merge};
+use crate::place::{first_from, place};
+use crate::replay::replay_rows;
+use crate::weight::weight;
+use batch_codec::{Batch, Record};
+use kv_base::NoMem;
+use row_model::{Row, RowRef};
+use std::alloc::Global;
+use std::marker::Model;
+use std::sync::Arc;
+
+/// Rows in order: raw keys ascend, and sequences fall within one. Contracts see the list of them.
+///
+/// Raw keys and values are on their grammar. The rows are shared, so a table is handed on without copying them.
+#[derive(Drop)]
+pub struct MemTable {
+    rows: Option<Arc<Vec<Arc<Row>>>>,
+    bytes: u64,
+}
+
+impl Model for MemTable {
+    ghost use Rattle.std.specs.Prelude.{◌≡◌, ◌-◌, ◌^◌, List, IsTrue, min};
+    ghost use Rattle.row_model.specs.declared.row.Row.{Row};
+    ghost use Rattle.row_model.specs.Rows.{are_row_texts};
+    ghost use Rattle.row_model.specs.RowOrder.{is_ordered};
+    ghost use Rattle.mem_table.specs.Shared.{rows_in};
+    ghost use Rattle.mem_table.specs.Weights.{rows_weight};
+
+    ghost Value = { List Row };
+
+    ghost view = { λ t. rows_in t.rows };
+
+    ghost invariant = { λ t. IsTrue (is_ordered (rows_in t.rows)) × IsTrue (are_row_texts (rows_in t.rows)) × (t.bytes ≡ min (rows_weight (rows_in t.rows)) (2 ^ 64 - 1)) };
+}
+
+impl MemTable {
+    /// A table of no rows, which takes no memory.
+    #[tactic(auto, unfolding(row_model::specs::RowOrder::is_ordered))]
+    pub fn new() -> MemTable
+        ensures { result ≡ [] }
+    {
+        MemTable {
+            rows: None,
+            bytes: 0,
+        }
+    }
+
+    /// The table with the rows of a batch under a sequence, which is above every sequence held. This table stays as it is.
+    ///
+    /// The batch's raw keys and values are copied. Of the rows held a pointer each is copied, so a call takes time by
+    /// their number and not by their bytes.
+    pub fn with(&self, alloc: Global, batch: &Batch, seq: u64) -> Result<MemTable, NoMem>
+        requires { IsTrue (are_below seq self.now) }
+        ensures rows { IfOk result (λ table. table ≡ merged self.now (batch_rows seq batch.now)) }
+        ensures shows { IfOk result (λ table. (last : ℕ) → IsTrue (are_upto last self.now) → last < seq → map_at table seq ≡ after (map_at self.now last) batch.now) }
+        ensures last { IfOk result (λ table. IsTrue (are_upto seq table)) }
+        ensures older { IfOk result (λ table. (s : ℕ) → s < seq → map_at table s ≡ map_at self.now s) }
+    {
+        let new = copy_rows(alloc, batch, seq)?;
+        let rows = merge(alloc, self.rows(), new.as_slice())?;
+        let bytes = self.bytes.saturating_add(weight(new.as_slice()));
+        Ok(MemTable {
+            rows: Some(Arc::new(alloc, rows)?),
+            bytes,
+        })
+    }
+
+    /// The table of the rows of these records' batches, each under its record's sequence: the one that `with` comes to by
+    /// one record after the other. Each record's sequence is above that of the record before it.
+    ///
+    /// The rows are sorted once, so a call takes time n log n by their number, and not that number for each record.
+    pub fn replay(alloc: Global, records: &[Record]) -> Result<MemTable, NoMem>
+        requires { IsTrue (do_rise records.now) }
+        ensures rows { IfOk result (λ table. table ≡ replayed [] records.now) }
+        ensures shows { IfOk result (λ table. map_at table (last_from 0 records.now) ≡ rows_after empty records.now) }
+        ensures last { IfOk result (λ table. IsTrue (are_upto (last_from 0 records.now) table)) }
+    {
+        let rows = replay_rows(alloc, records)?;
+        let bytes = weight(rows.as_slice());
+        Ok(MemTable {
+            rows: Some(Arc::new(alloc, rows)?),
+            bytes,
+        })
+    }
+
+    /// The row of a raw key with the greatest sequence not above `seq`; `None` exactly where there is none.
+    pub fn find(&self, raw: &[u8], seq: u64) -> Option<RowRef<'_>>
+        ensures { option_map row_seen result ≡ seen_at self.now seq raw.now }
+    {
+        let row = self.row(place(self.rows(), raw, seq))?;
+        if row.raw == raw { Some(row) } else { None }
+    }
+
+    /// The sum of the lengths of the raw keys and values held, in bytes, or 2^64 - 1 where it is greater.
+    pub fn bytes(&self) -> u64
+        ensures { result ≡ min (rows_weight self.now) (2 ^ 64 - 1) }
+    {
+        self.bytes
+    }
+
+    /// The same rows once more, which copies none of them. It fails only where the table is shared too often to count.
+    pub fn share(&self) -> Result<MemTable, NoMem>
+        ensures { IfOk result (λ table. table ≡ self.now) }
+    {
+        let rows = match &self.rows {
+            Some(rows) => Some(Arc::try_clone(rows)?),
+            None => None,
+        };
+        Ok(MemTable {
+            rows,
+            bytes: self.bytes,
+        })
+    }
+
+    /// The number of rows.
+    pub fn len(&self) -> usize
+        ensures count { result ≡ length self.now }
+        ensures order { IsTrue (is_ordered self.now) }
+        ensures grammar { IsTrue (are_row_texts self.now) }
+    {
+        self.rows().len()
+    }
+
+    /// Is there no row?
+    pub fn is_empty(&self) -> bool
+        ensures { result ≡ (length self.now == 0) }
+    {
+        self.len() == 0
+    }
+
+    /// The row at a place in the order. There is none exactly where the place is not below `len`.
+    pub fn row(&self, at: usize) -> Option<RowRef<'_>>
+        ensures { option_map row_seen result ≡ slice_get self.now at }
+    {
+        Some(self.rows().get(at)?.by_ref())
+    }
+
+    /// The first place whose raw key is not below this one; `len` where there is none.
+    pub fn position(&self, raw: &[u8]) -> usize
+        ensures bound { result ≤ length self.now }
+        ensures split { IsPartitionPoint (λ row. is_below raw.now row ≡ true) (λ row. is_below raw.now row ≡ false) self.now result }
+    {
+        first_from(self.rows(), raw)
+    }
+
+    fn rows(&self) -> &[Arc<Row>]
+        ensures all { rows_of result.now ≡ self.now }
+        ensures order { IsTrue (is_ordered self.now) }
+        ensures grammar { IsTrue (are_row_texts self.now) }
+    {
+        match &self.rows {
+            Some(rows) => rows.as_slice(),
+            None => &[],
+        }
+    }
+}

@@ -1,0 +1,10 @@
+pub mod Merging
+pub mod ReplayLaws
+pub mod Replays
+pub mod RowLaws
+pub mod RowMaps
+pub mod RowOrder
+pub mod RowOrderLaws
+pub mod RowRefs
+pub mod RowSearch
+pub mod Rows

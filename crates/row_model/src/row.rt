@@ -1,0 +1,33 @@
+ghost use Rattle.std.specs.Prelude.{◌≡◌};
+ghost use Rattle.row_model.specs.RowRefs.{row_seen};
+
+use kv_base::Blob;
+
+/// What was written at a raw key under a sequence: a value that was put, or a delete where there is none.
+#[derive(Debug, Drop)]
+pub struct Row {
+    pub raw: Blob,
+    pub seq: u64,
+    pub value: Option<Blob>,
+}
+
+/// A row whose bytes stand elsewhere.
+#[derive(Clone, Copy, Debug, PartialEq, Eq)]
+pub struct RowRef<'a> {
+    pub raw: &'a [u8],
+    pub seq: u64,
+    pub value: Option<&'a [u8]>,
+}
+
+impl Row {
+    /// The row by reference, which takes no memory.
+    pub fn by_ref(&self) -> RowRef<'_>
+        ensures { row_seen result ≡ self.now }
+    {
+        RowRef {
+            raw: self.raw.bytes(),
+            seq: self.seq,
+            value: self.value.as_ref().map(|value| value.bytes()),
+        }
+    }
+}
