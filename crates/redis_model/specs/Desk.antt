@@ -1,5 +1,5 @@
 -- What a desk answers to a call, and what its caller sees of the history.
-use Rattle.std.specs.Prelude.{◌≡◌, ◌≢◌, ◌≤◌, ◌<◌, ◌-◌, ◌^◌, ◌⊎◌, ℕ, Bool, true, false, if◌then◌else◌, is_some, IsFalse, List, [], ◌∷◌, ◌++◌, map, Some, Result, Ok, Err}
+use Rattle.std.specs.Prelude.{◌≡◌, ◌≢◌, ◌≤◌, ◌<◌, ◌-◌, ◌^◌, ◌⊎◌, ℕ, Bool, true, false, if◌then◌else◌, is_some, IsFalse, OnErr, List, [], ◌∷◌, ◌++◌, map, Some, Result, Ok, Err}
 use Rattle.kv_outside.specs.Causes.{Rose}
 use Rattle.kv_outside.specs.Readings as readings
 use Rattle.redis_model.specs.declared.reply.Reply.{Reply}
@@ -122,11 +122,14 @@ pub record TakesReading (old new : DeskState) (now : ℕ) : Type 0 where
   pub pinned : new.pinned ≡ old.pinned
   pub faults : new.faults ≡ old.faults
 
--- A command was answered: where the desk stood for a history, it stands for one that goes on by the call.
+-- A command was answered: where the desk stood for a history, it stands for one that goes on by the call, and one that only
+-- reads plans nothing to write. What a call that failed planned was planned for its command.
 pub record TakesCall (old new : DeskState) (now : ℕ) (c : Command) (result : Result Reply DeskFault) : Type 0 where
   pub history : (first : State) (seen : List Place) → old.stands first seen
       → (after : List Place) × new.stands first after × Follows old.number seen after × Leaves old.number first seen now c result after
   pub reason : HasReason old.faults new result
+  pub idle : (first : State) (seen : List Place) → old.stands first seen → IsFalse (writes c) → new.body ≡ 0
+  pub planned : OnErr result (new.planned now c)
   pub later : old.faults ≤ new.faults
   pub readings : new.readings ≡ old.readings
   pub last : new.last ≡ old.last

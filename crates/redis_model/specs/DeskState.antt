@@ -1,6 +1,7 @@
 -- What is told of a desk.
 use Rattle.std.specs.Prelude.{ℕ, Bool, List, Option}
 use Rattle.kv_base.specs.declared.name.FileName.{FileName}
+use Rattle.redis_model.specs.declared.command.Command.{Command}
 use Rattle.redis_model.specs.declared.history.Place.{Place}
 use Rattle.redis_model.specs.Machine.{State}
 
@@ -20,3 +21,5 @@ pub record DeskState : Type 1 where
   pub off : FileName → ℕ → Type 0
   pub sequence : ℕ
   pub body : ℕ
+  -- what the desk says of such a body, where the call failed: that it was planned for this command, at this reading
+  pub planned : ℕ → Command → Type 0

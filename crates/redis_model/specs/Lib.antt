@@ -24,6 +24,7 @@ pub mod TouchedLaws
 pub mod MachineLaws
 pub mod Stripes
 pub mod StripesLaws
+pub mod Families
 pub mod Built
 pub mod DeskState
 pub mod Desk

@@ -8,6 +8,7 @@
 //! each names a law over these definitions, which is proved.
 #![tactic(auto)]
 
+mod built;
 mod command;
 mod desk;
 mod history;
