@@ -1,0 +1,13 @@
+pub mod Agree
+pub mod Alike
+pub mod Strings
+pub mod Keys
+pub mod Lists
+pub mod Sets
+pub mod Carried
+pub mod Local
+pub mod Between
+pub mod Moments
+pub mod AliveLocal
+pub mod FoldLocal
+pub mod Until
