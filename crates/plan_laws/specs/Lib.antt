@@ -1,0 +1,13 @@
+pub mod Tabulated
+pub mod RowsFor
+pub mod RawKeysRead
+pub mod RowsForLaws
+pub mod EveryMap
+pub mod RowsOnGrammar
+pub mod ReadyRows
+pub mod Ahead
+pub mod AlikeRows
+pub mod StillPlan
+pub mod SomeRow
+pub mod AfterSteps
+pub mod HoldsLater
