@@ -1,0 +1,12 @@
+pub mod Seen
+pub mod Ahead
+pub mod MetaRows
+pub mod KeySteps
+pub mod Retimed
+pub mod KeyPlans
+pub mod Sights
+pub mod ManyKeys
+pub mod KeyLimits
+pub mod Passing
+pub mod Overlays
+pub mod MergeSteps
