@@ -1,0 +1,337 @@
+-- What a batch adds to a log, and what a store then keeps.
+use Rattle.std.proofs.Common.{◌≡◌, ◌⊎◌, ⊎_elim, inl, inr, ℕ, ◌+◌, ◌<◌, ◌≤◌, ◌^◌, Bool, true, false, cond, List, [], ◌∷◌, ◌++◌, length, Option, Some, None, Result, Ok, Err, refl, sym, ap, subst, ◌∙◌, arith}
+use Rattle.std.specs.Prelude.{◌==◌, ◌&&◌, nat_le}
+use Rattle.std.proofs.lemmas.Bool.Decides.{nat_tests}
+use Rattle.kv_base.specs.Map.{Bytes}
+use Rattle.kv_base.specs.declared.name.FileName.{FileName}
+use Rattle.kv_outside.specs.Disk.{Disk, Leaves, Touches}
+use Rattle.kv_outside.specs.Runs.{run_weaken, begin_run}
+use Rattle.gated_log.specs.Gated.{records, IsBeforeOrAfter}
+use Rattle.gated_log.specs.States.{LogState, Rests, Wavers, IsLeft}
+use Rattle.gated_log.specs.Still.{rests_records, wavers_records}
+use Rattle.batch_codec.specs.Batches.{Batch, after}
+use Rattle.batch_codec.specs.Bodies.{body_of, is_seq, is_moment}
+use Rattle.batch_codec.specs.BodyLaws.{IsWritable}
+use Rattle.batch_codec.specs.declared.record.Record.{Record}
+use Rattle.wal_log.specs.Segments.{is_next, record_behind, records_of, last_behind, last_of}
+use Rattle.wal_log.specs.SegmentLaws.{segment_of-records, records_of-push, record_behind-written}
+use Rattle.redis_model.specs.Machine.{State}
+use Rattle.lives_model.specs.Rows.{Rows}
+use Rattle.log_store.specs.Recover.{Recovered, nothing, with_record, with_records, by_records, recovered_by, recovered}
+use Rattle.log_store.specs.Planned.{IsOfCommands}
+use Rattle.log_store.specs.Keeping.{log_file, StoreState, StandsFor, IsAttempt, Attempted, Holds, IsKept, ComesTo, ComesToKeys, Keeps, KeepsOrMore}
+use Rattle.log_store.specs.KeepLaws.{same_state, stands_comes}
+use Rattle.log_store.specs.Playing.{IsEitherRows, IsWrite}
+
+-- ---- one record more
+
+-- the state has the sequence and the moment of the last record
+abbrev IsLast : Option Record → Recovered → Type 0
+IsLast None state = state.sequence ≡ 0
+IsLast (Some last) state = (last.seq ≡ state.sequence) × (last.moment ≡ state.floor)
+
+with_records-last : (before : Recovered) (last : Option Record) (rs : List Record) → IsLast last before → IsLast (last_behind last rs) (with_records before rs)
+with_records-last before last [] is = is
+with_records-last before last (r ∷ rs) is = with_records-last (with_record before r) (Some r) rs (refl, refl)
+
+with_records-push : (before : Recovered) (rs : List Record) (r : Record) → with_records before (rs ++ r ∷ []) ≡ with_record (with_records before rs) r
+with_records-push before [] r = refl
+with_records-push before (s ∷ rs) r = with_records-push (with_record before s) rs r
+
+record IsFrom (r : Record) (rs : List Record) (state : Recovered) : Type 0 where
+  pub first : (r.seq == 1) ≡ true
+  pub is : with_records nothing (r ∷ rs) ≡ state
+
+from_first : (r : Record) (rs : List Record) (state : Recovered) → by_records (r ∷ rs) ≡ Ok state → IsFrom r rs state
+from_first r rs state is = by_test (r.seq == 1) refl is
+  where
+    by_test : (b : Bool) → (r.seq == 1) ≡ b → cond {A = Result Recovered ℕ} b (Ok (with_records nothing (r ∷ rs))) (Err 0) ≡ Ok state → IsFrom r rs state
+    by_test true first is = record { first = first; is = same_state _ state is }
+    by_test false first is = absurd (cc)
+
+by_records-last : (rs : List Record) (state : Recovered) → by_records rs ≡ Ok state → IsLast (last_of rs) state
+by_records-last [] state is = ap (λ (s : Recovered). s.sequence) (sym (same_state nothing state is))
+by_records-last (r ∷ rs) state is =
+    let from = from_first r rs state is in
+    subst (λ (s : Recovered). IsLast (last_behind (Some r) rs) s) from.is (with_records-last (with_record nothing r) (Some r) rs (refl, refl))
+
+by_records-push : (rs : List Record) (r : Record) (state : Recovered) → by_records rs ≡ Ok state → r.seq ≡ state.sequence + 1 → by_records (rs ++ r ∷ []) ≡ Ok (with_record state r)
+by_records-push [] r state is next =
+    let same = same_state nothing state is in
+    let zero : 0 ≡ state.sequence = ap (λ (s : Recovered). s.sequence) same in
+    let first : (r.seq == 1) ≡ true = one r.seq (omega arith) in
+    ap (λ b. cond {A = Result Recovered ℕ} b (Ok (with_record nothing r)) (Err 0)) first ∙ ap (λ (s : Recovered). Ok (with_record s r)) same
+  where
+    one : (n : ℕ) → n ≡ 1 → (n == 1) ≡ true
+    one n is = grind (arith, nat_tests)
+by_records-push (s ∷ rs) r state is next =
+    let from = from_first s rs state is in
+    ap (λ b. cond {A = Result Recovered ℕ} b (Ok (with_records nothing (s ∷ (rs ++ r ∷ [])))) (Err 0)) from.first
+    ∙ ap (λ (t : Recovered). Ok t) (with_records-push nothing (s ∷ rs) r ∙ ap (λ (t : Recovered). with_record t r) from.is)
+
+may_follow : (last : Option Record) (state : Recovered) (r : Record) → IsLast last state → r.seq ≡ state.sequence + 1 → state.floor ≤ r.moment → is_next last r ≡ true
+may_follow None state r is next later = refl
+may_follow (Some last) state r is next later = follows last.seq last.moment r.seq r.moment (omega (arith, is.0)) (omega (arith, is.1))
+  where
+    follows : (m t n u : ℕ) → n ≡ m + 1 → t ≤ u → ((n == m + 1) && nat_le t u) ≡ true
+    follows m t n u next later = grind (arith, nat_tests)
+
+-- ---- a batch that can be written
+
+-- the record of a batch behind the last sequence
+abbrev pub record_of : ℕ → ℕ → Batch → Record
+record_of sequence moment batch = record { seq = sequence + 1; moment = moment; batch = batch }
+
+is_writable : (sequence floor : ℕ) (batch : Batch) (moment : ℕ) (body : Bytes) → IsWrite sequence floor batch moment body → IsWritable (sequence + 1) moment batch
+is_writable sequence floor batch moment body write = record {
+  seq_is = seq_is (sequence + 1) (omega (arith, write.room)) (omega (arith, write.room));
+  moment_is = moment_is moment write.early;
+  some = write.some;
+  rows = write.rows;
+}
+  where
+    seq_is : (seq : ℕ) → 1 ≤ seq → seq ≤ 4398046511102 → is_seq seq ≡ true
+    seq_is seq low high = grind (arith, nat_tests)
+
+    moment_is : (moment : ℕ) → moment ≤ 2 ^ 61 → is_moment moment ≡ true
+    moment_is moment high = grind (arith, nat_tests)
+
+-- the log's bodies and one more are read, as the records and this one
+record IsAdded (bodies : List Bytes) (records : List Record) (state : Recovered) (body : Bytes) (r : Record) : Type 0 where
+  pub read : records_of (bodies ++ body ∷ []) ≡ Ok (records ++ r ∷ [])
+  pub made : by_records (records ++ r ∷ []) ≡ Ok (with_record state r)
+
+is_added : (bodies : List Bytes) (records : List Record) (state : Recovered) (sequence floor : ℕ) (batch : Batch) (moment : ℕ) (body : Bytes)
+    → records_of bodies ≡ Ok records → by_records records ≡ Ok state → state.sequence ≡ sequence → state.floor ≤ floor → IsWrite sequence floor batch moment body
+    → IsAdded bodies records state body (record_of sequence moment batch)
+is_added bodies records state sequence floor batch moment body read made last low write =
+    let next : sequence + 1 ≡ state.sequence + 1 = omega arith in
+    let behind : record_behind (last_of records) body ≡ Some (record_of sequence moment batch) =
+    ap (record_behind (last_of records)) write.is
+    ∙ record_behind-written (last_of records) (sequence + 1) moment batch (is_writable sequence floor batch moment body write)
+    (short body (body_of (sequence + 1) moment batch) write.is write.fits)
+    (may_follow (last_of records) state (record_of sequence moment batch) (by_records-last records state made) next (omega (arith, write.later))) in
+    record {
+      read = records_of-push bodies body records (record_of sequence moment batch) read behind;
+      made = by_records-push records (record_of sequence moment batch) state made next;
+    }
+  where
+    short : (a b : Bytes) → a ≡ b → length a ≤ 4294967295 → length b < 2 ^ 32
+    short a b same fits = let long = ap length same in omega arith
+
+-- ---- what a store keeps
+
+-- what the log was left with, whatever its last append came to
+holds_left : (unsure : Bool) (disk : Disk) (log : LogState) (bodies : List Bytes) (state : Recovered) → Holds unsure disk log bodies state → (tried : Bytes) × IsLeft unsure disk log bodies tried
+holds_left true disk log bodies state holds = (holds.tried, holds.wavers)
+holds_left false disk log bodies state holds = ([], holds)
+
+holds_rests : (unsure : Bool) (disk : Disk) (log : LogState) (bodies : List Bytes) (state : Recovered) → unsure ≡ false → Holds unsure disk log bodies state → Rests disk log bodies
+holds_rests true disk log bodies state sure holds = absurd (cc)
+holds_rests false disk log bodies state sure holds = holds
+
+rests_hold : (unsure : Bool) (disk : Disk) (log : LogState) (bodies : List Bytes) (state : Recovered) → unsure ≡ false → Rests disk log bodies → Holds unsure disk log bodies state
+rests_hold true disk log bodies state sure rests = absurd (cc)
+rests_hold false disk log bodies state sure rests = rests
+
+-- where only the floor rose, or nothing changed
+pub kept_still : (disk : Disk) (old new : StoreState) → new.rows ≡ old.rows → new.written ≡ old.written → new.log ≡ old.log → new.sequence ≡ old.sequence → IsKept disk old → IsKept disk new
+kept_still disk old new rows written log sequence kept = record {
+  bodies = kept.bodies;
+  records = kept.records;
+  state = kept.state;
+  name = ap (λ (l : LogState). l.name) log ∙ kept.name;
+  read = kept.read;
+  made = kept.made;
+  rows = kept.rows ∙ sym rows;
+  written = kept.written ∙ sym written;
+  last = kept.last ∙ sym sequence;
+  holds = subst (λ (l : LogState). Holds l.unsure disk l kept.bodies kept.state) (sym log) kept.holds;
+}
+
+-- a batch behind what is kept
+batch_behind : (disk : Disk) (old : StoreState) (batch : Batch) (moment : ℕ) (body : Bytes) → old.written ≤ old.floor → IsWrite old.sequence old.floor batch moment body → (kept : IsKept disk old)
+    → IsAdded kept.bodies kept.records kept.state body (record_of old.sequence moment batch)
+batch_behind disk old batch moment body past write kept =
+    is_added kept.bodies kept.records kept.state old.sequence old.floor batch moment body kept.read kept.made kept.last (omega (arith, kept.written)) write
+
+-- the batch is in the log
+pub kept_added : (before now : Disk) (old new : StoreState) (seen done : LogState) (batch : Batch) (moment : ℕ) (body : Bytes) → old.written ≤ old.floor → IsWrite old.sequence old.floor batch moment body
+    → seen ≡ old.log → new.log ≡ done
+    → ((bodies : List Bytes) (tried : Bytes) → IsLeft seen.unsure before seen bodies tried → Rests now done (bodies ++ body ∷ []))
+    → done.unsure ≡ false → done.name ≡ seen.name → new.rows ≡ after old.rows batch → new.written ≡ moment → new.sequence ≡ old.sequence + 1
+    → IsKept before old → IsKept now new
+kept_added before now old new seen done batch moment body past write was is added sure name rows written sequence kept =
+    let more = batch_behind before old batch moment body past write kept in
+    let holds : Holds seen.unsure before seen kept.bodies kept.state = subst (λ (l : LogState). Holds l.unsure before l kept.bodies kept.state) (sym was) kept.holds in
+    let left = holds_left seen.unsure before seen kept.bodies kept.state holds in
+    let r : Record = record_of old.sequence moment batch in
+    record {
+      bodies = kept.bodies ++ body ∷ [];
+      records = kept.records ++ r ∷ [];
+      state = with_record kept.state r;
+      name = ap (λ (l : LogState). l.name) is ∙ name ∙ ap (λ (l : LogState). l.name) was ∙ kept.name;
+      read = more.read;
+      made = more.made;
+      rows = ap (λ (c : Rows). after c batch) kept.rows ∙ sym rows;
+      written = sym written;
+      last = sym sequence;
+      holds = subst (λ (l : LogState). Holds l.unsure now l (kept.bodies ++ body ∷ []) (with_record kept.state r)) (sym is)
+          (rests_hold done.unsure now done (kept.bodies ++ body ∷ []) (with_record kept.state r) sure (added kept.bodies left.0 left.1));
+    }
+
+-- a batch of commands, by the rows and the sequence that are equal
+same_commands : (a b : Rows) (moment n m : ℕ) (batch : Batch) → a ≡ b → n ≡ m → IsOfCommands a moment n batch → IsOfCommands b moment m batch
+same_commands a b moment n m batch rows sequence of =
+    subst (λ (n : ℕ). IsOfCommands b moment n batch) sequence (subst (λ (c : Rows). IsOfCommands c moment n batch) rows of)
+
+-- the body that was tried is that of this batch
+batch_tried : (disk : Disk) (old : StoreState) (batch : Batch) (moment : ℕ) (body : Bytes) → old.written ≤ old.floor → IsWrite old.sequence old.floor batch moment body
+    → IsOfCommands old.rows moment old.sequence batch → (kept : IsKept disk old)
+    → IsAttempt kept.bodies body kept.state (record_of old.sequence moment batch)
+batch_tried disk old batch moment body past write of kept =
+    let more = batch_behind disk old batch moment body past write kept in
+    record {
+      sequence = ap (λ (n : ℕ). n + 1) (sym kept.last);
+      later = omega (arith, kept.written, write.later);
+      of = same_commands old.rows kept.state.rows moment old.sequence kept.state.sequence batch (sym kept.rows) (sym kept.last) of;
+      made = ap recovered_by more.read ∙ more.made;
+    }
+
+still_holds : (was unsure : Bool) (before now : Disk) (old new : LogState) (bodies : List Bytes) (state : Recovered) (r : Record) (body : Bytes) → IsAttempt bodies body state r
+    → ((tried : Bytes) → IsLeft was before old bodies tried → IsLeft unsure now new bodies tried ⊎ IsLeft unsure now new bodies body)
+    → Holds was before old bodies state → Holds unsure now new bodies state
+still_holds true true before now old new bodies state r body attempt left holds = ⊎_elim
+    (λ (w : Wavers now new bodies holds.tried). record { tried = holds.tried; record_tried = holds.record_tried; wavers = w; attempt = holds.attempt })
+    (λ (w : Wavers now new bodies body). record { tried = body; record_tried = r; wavers = w; attempt = attempt })
+    (left holds.tried holds.wavers)
+still_holds false true before now old new bodies state r body attempt left holds = ⊎_elim
+    (λ (w : Wavers now new bodies body). record { tried = body; record_tried = r; wavers = w; attempt = attempt })
+    (λ (w : Wavers now new bodies body). record { tried = body; record_tried = r; wavers = w; attempt = attempt })
+    (left body holds)
+still_holds true false before now old new bodies state r body attempt left holds = ⊎_elim
+    (λ (r : Rests now new bodies). r) (λ (r : Rests now new bodies). r) (left holds.tried holds.wavers)
+still_holds false false before now old new bodies state r body attempt left holds = ⊎_elim
+    (λ (r : Rests now new bodies). r) (λ (r : Rests now new bodies). r) (left body holds)
+
+-- the batch is not in the log, or its gate was tried
+pub kept_left : (before now : Disk) (old new : StoreState) (seen done : LogState) (batch : Batch) (moment : ℕ) (body : Bytes) → old.written ≤ old.floor → IsWrite old.sequence old.floor batch moment body
+    → seen ≡ old.log → new.log ≡ done
+    → ((bodies : List Bytes) (tried : Bytes) → IsLeft seen.unsure before seen bodies tried
+    → IsLeft done.unsure now done bodies tried ⊎ IsLeft done.unsure now done bodies body)
+    → done.name ≡ seen.name → new.rows ≡ old.rows → new.written ≡ old.written → new.sequence ≡ old.sequence
+    → IsOfCommands old.rows moment old.sequence batch → IsKept before old → IsKept now new
+kept_left before now old new seen done batch moment body past write was is left name rows written sequence of kept = record {
+  bodies = kept.bodies;
+  records = kept.records;
+  state = kept.state;
+  name = ap (λ (l : LogState). l.name) is ∙ name ∙ ap (λ (l : LogState). l.name) was ∙ kept.name;
+  read = kept.read;
+  made = kept.made;
+  rows = kept.rows ∙ sym rows;
+  written = kept.written ∙ sym written;
+  last = kept.last ∙ sym sequence;
+  holds = subst (λ (l : LogState). Holds l.unsure now l kept.bodies kept.state) (sym is)
+      (still_holds seen.unsure done.unsure before now seen done kept.bodies kept.state (record_of old.sequence moment batch) body
+      (batch_tried before old batch moment body past write of kept) (left kept.bodies)
+      (subst (λ (l : LogState). Holds l.unsure before l kept.bodies kept.state) (sym was) kept.holds));
+}
+
+-- ---- what a crash leaves
+
+-- bytes with these bodies come to this state
+comes_to : (bytes : Bytes) (bodies : List Bytes) (rs : List Record) (state : Recovered) → records bytes ≡ bodies → records_of bodies ≡ Ok rs → by_records rs ≡ Ok state → recovered bytes ≡ Ok state
+comes_to bytes bodies rs state is read made = ap recovered_by (segment_of-records bytes bodies is ∙ read) ∙ made
+
+leaves_at : (disk : Disk) (at name : FileName) (P : Bytes → Type 0) → at ≡ name → Leaves disk at P → Leaves disk name P
+leaves_at disk at name P is leaves = subst (λ (n : FileName). Leaves disk n P) is leaves
+
+pub leaves_more : (disk : Disk) (name : FileName) (P Q : Bytes → Type 0) → ((c : Bytes) → P c → Q c) → Leaves disk name P → Leaves disk name Q
+leaves_more disk name P Q leads leaves = record { each = λ c image. leads c (leaves.each c image) }
+
+-- bytes with the bodies that are kept come to the rows
+kept_comes : (disk : Disk) (old : StoreState) (kept : IsKept disk old) (c : Bytes) → records c ≡ kept.bodies → ComesTo old.rows old.written c
+kept_comes disk old kept c is = record {
+  state = kept.state;
+  is = comes_to c kept.bodies kept.records kept.state is kept.read kept.made;
+  rows_are = kept.rows;
+  written_is = kept.written;
+}
+
+-- at any moment of the append the log comes to the rows before, or to those after
+pub either_rows : (before now : Disk) (old : StoreState) (seen : LogState) (batch : Batch) (moment : ℕ) (body : Bytes) → old.written ≤ old.floor → IsWrite old.sequence old.floor batch moment body
+    → seen ≡ old.log
+    → (seen.unsure ≡ false → (bodies : List Bytes) → Rests before seen bodies → Touches seen.name before now (IsBeforeOrAfter bodies body))
+    → old.log.unsure ≡ false → IsKept before old
+    → Touches log_file before now (IsEitherRows old.rows old.written (after old.rows batch) moment)
+either_rows before now old seen batch moment body past write was run sure kept =
+    let more = batch_behind before old batch moment body past write kept in
+    let rests : Rests before seen kept.bodies =
+    subst (λ (l : LogState). Rests before l kept.bodies) (sym was) (holds_rests old.log.unsure before old.log kept.bodies kept.state sure kept.holds) in
+    let r : Record = record_of old.sequence moment batch in
+    let here : Touches log_file before now (IsBeforeOrAfter kept.bodies body) =
+    subst (λ (n : FileName). Touches n before now (IsBeforeOrAfter kept.bodies body)) (ap (λ (l : LogState). l.name) was ∙ kept.name)
+    (run (ap (λ (l : LogState). l.unsure) was ∙ sure) kept.bodies rests) in
+    run_weaken log_file before now (IsBeforeOrAfter kept.bodies body) (IsEitherRows old.rows old.written (after old.rows batch) moment) here (λ c is. ⊎_elim
+    (λ (e : records c ≡ kept.bodies). inl (kept_comes before old kept c e))
+    (λ (e : records c ≡ kept.bodies ++ body ∷ []). inr (record {
+      state = with_record kept.state r;
+      is = comes_to c (kept.bodies ++ body ∷ []) (kept.records ++ r ∷ []) (with_record kept.state r) e more.read more.made;
+      rows_are = ap (λ (c : Rows). after c batch) kept.rows;
+      written_is = refl;
+    }))
+    is)
+
+-- where no call was made, it comes to the rows before
+pub still_comes : (disk : Disk) (old : StoreState) (more : Rows) (moment : ℕ) → old.log.unsure ≡ false → IsKept disk old → Touches log_file disk disk (IsEitherRows old.rows old.written more moment)
+still_comes disk old more moment sure kept =
+    let rests = holds_rests old.log.unsure disk old.log kept.bodies kept.state sure kept.holds in
+    begin_run log_file disk (IsEitherRows old.rows old.written more moment)
+    (leaves_more disk log_file (λ c. records c ≡ kept.bodies) (IsEitherRows old.rows old.written more moment) (λ c is. inl (kept_comes disk old kept c is))
+    (leaves_at disk old.log.name log_file (λ c. records c ≡ kept.bodies) kept.name (rests_records disk old.log kept.bodies rests)))
+
+-- ---- an end
+
+-- a log that is not unsure any more leaves the rows
+pub keeps_mended : (before now : Disk) (old : StoreState) (log : LogState) → log.name ≡ old.log.name
+    → ((bodies : List Bytes) (tried : Bytes) → IsLeft old.log.unsure before old.log bodies tried → Rests now log bodies)
+    → IsKept before old → Keeps now old.rows old.written
+keeps_mended before now old log name mended kept =
+    let left = holds_left old.log.unsure before old.log kept.bodies kept.state kept.holds in
+    leaves_more now log_file (λ c. records c ≡ kept.bodies) (ComesTo old.rows old.written) (λ c is. kept_comes before old kept c is)
+    (leaves_at now log.name log_file (λ c. records c ≡ kept.bodies) (name ∙ kept.name) (rests_records now log kept.bodies (mended kept.bodies left.0 left.1)))
+
+-- and so the keys that they mean
+pub keeps_keys : (disk : Disk) (old : StoreState) (s : State) → StandsFor old s → Keeps disk old.rows old.written → Leaves disk log_file (ComesToKeys s.floor s.keys)
+keeps_keys disk old s stands keeps = leaves_more disk log_file (ComesTo old.rows old.written) (ComesToKeys s.floor s.keys) (stands_comes old s stands) keeps
+
+-- one that is unsure still leaves the rows, or those after the batch that was tried
+pub keeps_unsure : (before now : Disk) (old : StoreState) (log : LogState) (unsure : Bool) → old.log.unsure ≡ unsure → unsure ≡ true → log.name ≡ old.log.name
+    → ((bodies : List Bytes) (tried : Bytes) → IsLeft unsure before old.log bodies tried → Wavers now log bodies tried)
+    → IsKept before old → KeepsOrMore now old.rows old.written old.sequence
+keeps_unsure before now old log false is unsure name left kept = absurd (cc)
+keeps_unsure before now old log true is unsure name left kept =
+    let a : Attempted before old.log kept.bodies kept.state = subst (λ (b : Bool). Holds b before old.log kept.bodies kept.state) is kept.holds in
+    let batch : Batch = a.record_tried.batch in
+    let moment : ℕ = a.record_tried.moment in
+    record {
+      batch = batch;
+      moment = moment;
+      later = omega (arith, a.attempt.later, kept.written);
+      of = same_commands kept.state.rows old.rows moment kept.state.sequence old.sequence batch kept.rows kept.last a.attempt.of;
+      leaves = leaves_more now log_file (IsBeforeOrAfter kept.bodies a.tried)
+          (λ c. ComesTo old.rows old.written c ⊎ ComesTo (after old.rows a.record_tried.batch) a.record_tried.moment c)
+          (λ c one. ⊎_elim
+          (λ (e : records c ≡ kept.bodies). inl (kept_comes before old kept c e))
+          (λ (e : records c ≡ kept.bodies ++ a.tried ∷ []). inr (after_tried a c e))
+          one)
+          (leaves_at now log.name log_file (IsBeforeOrAfter kept.bodies a.tried) (name ∙ kept.name) (wavers_records now log kept.bodies a.tried (left kept.bodies a.tried a.wavers)));
+    }
+  where
+    after_tried : (a : Attempted before old.log kept.bodies kept.state) → (c : Bytes) → records c ≡ kept.bodies ++ a.tried ∷ [] → ComesTo (after old.rows a.record_tried.batch) a.record_tried.moment c
+    after_tried a c is = record {
+      state = with_record kept.state a.record_tried;
+      is = ap recovered_by (segment_of-records c (kept.bodies ++ a.tried ∷ []) is) ∙ a.attempt.made;
+      rows_are = ap (λ (rows : Rows). after rows a.record_tried.batch) kept.rows;
+      written_is = refl;
+    }

@@ -1,0 +1,180 @@
+-- How a plan that is carried out answers as the machine does.
+use Rattle.std.proofs.Common.{◌≡◌, ⊎_elim, inl, inr, ℕ, zero, suc, ◌^◌, false, cond, Option, Some, refl, sym, ap, subst, ◌∙◌, arith}
+use Rattle.std.specs.Prelude.{◌==◌, if◌then◌else◌, min, max}
+use Rattle.kv_base.specs.Map.{Bytes}
+use Rattle.kv_outside.specs.Disk.{Disk, Touches}
+use Rattle.kv_outside.specs.Runs.{run_weaken}
+use Rattle.gated_log.specs.States.{LogState}
+use Rattle.batch_codec.specs.Batches.{Batch, after}
+use Rattle.redis_model.specs.declared.command.Cmds.{Cmds}
+use Rattle.redis_model.specs.declared.command.Cmds.TheVariants.{One, Many}
+use Rattle.redis_model.specs.declared.reply.Reply.{Reply}
+use Rattle.redis_model.specs.Machine.{State, step, fold, moment_at, at_moment}
+use Rattle.redis_model.specs.Value.{RedisMap, alive}
+use Rattle.lives_model.specs.Rows.{Rows}
+use Rattle.lives_model.specs.Means.{Means}
+use Rattle.lives_model.specs.CleanLaws.{means_later}
+use Rattle.lives_model.specs.Joined.{after-empty, plan_means}
+use Rattle.lives_model.specs.MeansOne.{means_one}
+use Rattle.lives_model.specs.Plans.{IsPlanFor}
+use Rattle.lives_model.specs.Steps.{alive_means}
+use Rattle.log_store.specs.Planned.{IsOfCommands, IsPlannedAlways}
+use Rattle.log_store.specs.Keeping.{log_file, IsKept, StoreState, StandsFor, ComesTo, ComesToKeys}
+use Rattle.log_store.specs.KeepLaws.{comes_to_keys, means_alike, stands_later, stands_mean}
+use Rattle.log_store.specs.Playing.{entry, planned_for, IsBeforeOrAfter, IsBodyOfPlan, IsEitherRows, Plays}
+use Rattle.log_store.specs.PlayLaws.{none_planned, not_none}
+use Rattle.log_store.proofs.Appending.{kept_still, still_comes}
+
+-- ---- the moment of a call
+
+-- another state of a store of the same rows, floor, log and last batch
+pub record IsSame (old mid : StoreState) : Type 0 where
+  pub rows : mid.rows ≡ old.rows
+  pub floor : mid.floor ≡ old.floor
+  pub written : mid.written ≡ old.written
+  pub log : mid.log ≡ old.log
+  pub sequence : mid.sequence ≡ old.sequence
+
+pub same_but_planned : (old : StoreState) (rows : Rows) (floor written : ℕ) (log : LogState) (sequence planned next : ℕ)
+    → record { rows = rows; floor = floor; written = written; log = log; sequence = sequence; planned = planned } ≡ old
+    → IsSame old (record { rows = rows; floor = floor; written = written; log = log; sequence = sequence; planned = next })
+same_but_planned old rows floor written log sequence planned next is = record {
+  rows = ap (λ (s : StoreState). s.rows) is;
+  floor = ap (λ (s : StoreState). s.floor) is;
+  written = ap (λ (s : StoreState). s.written) is;
+  log = ap (λ (s : StoreState). s.log) is;
+  sequence = ap (λ (s : StoreState). s.sequence) is;
+}
+
+pub same_kept : (disk : Disk) (old mid : StoreState) → IsSame old mid → IsKept disk old → IsKept disk mid
+same_kept disk old mid same kept = kept_still disk old mid same.rows same.written same.log same.sequence kept
+
+-- a plan that was made at the moment of a call
+pub record IsPlanAt (old mid : StoreState) (now : ℕ) (ds : Cmds) (b : Batch) (answer : Reply) (until : Option ℕ) (moment : ℕ) : Type 0 where
+  pub same : IsSame old mid
+  pub at : moment ≡ max mid.floor (min now (2 ^ 61))
+  pub planned : IsPlannedAlways mid.rows moment mid.sequence ds b answer until
+
+moment_is : (old mid : StoreState) (s : State) (now moment : ℕ) → IsSame old mid → StandsFor old s → moment ≡ max mid.floor (min now (2 ^ 61)) → moment ≡ moment_at s now
+moment_is old mid s now moment same stands is = is ∙ ap (λ (f : ℕ). max f (min now 2305843009213693952)) (same.floor ∙ sym stands.floor)
+
+-- the batch of a plan is one of commands
+pub of_commands : (old mid : StoreState) (now : ℕ) (ds : Cmds) (b : Batch) (answer : Reply) (until : Option ℕ) (moment : ℕ) → IsPlanAt old mid now ds b answer until moment
+    → IsOfCommands mid.rows moment mid.sequence b
+of_commands old mid now ds b answer until moment plan = record { commands = ds; answer = answer; until = until; plan = plan.planned }
+
+-- what the rows mean at the moment of a call
+means_now : (old : StoreState) (s : State) (now : ℕ) → StandsFor old s → Means old.rows (moment_at s now) (at_moment s now).keys
+means_now old s now stands = means_later old.rows old.floor (moment_at s now) s.keys (omega (arith, stands.floor)) (stands_mean old s stands)
+
+-- ---- what the machine does
+
+step_is : (s : State) (now : ℕ) (ds : Cmds) → step s (entry now ds) ≡ (Some (fold (at_moment s now).keys (moment_at s now) ds).0, record { keys = (fold (at_moment s now).keys (moment_at s now) ds).1; floor = moment_at s now; pins = s.pins })
+unfolding step
+step_is s now (One c) = refl
+step_is s now (Many cs) = refl
+
+-- the plan of a call, by the state that the store stands for
+plan_for : (old mid : StoreState) (now : ℕ) (ds : Cmds) (b : Batch) (answer : Reply) (until : Option ℕ) (moment : ℕ) → IsPlanAt old mid now ds b answer until moment → (s : State) → StandsFor old s
+    → IsPlanFor old.rows (moment_at s now) old.sequence (at_moment s now).keys ds b answer until
+plan_for old mid now ds b answer until moment plan s stands =
+    let here : IsPlannedAlways old.rows (moment_at s now) old.sequence ds b answer until =
+    subst (λ (c : Rows). IsPlannedAlways c (moment_at s now) old.sequence ds b answer until) plan.same.rows
+    (subst (λ (t : ℕ). IsPlannedAlways mid.rows t old.sequence ds b answer until) (moment_is old mid s now moment plan.same stands plan.at)
+    (subst (λ (base : ℕ). IsPlannedAlways mid.rows moment base ds b answer until) plan.same.sequence plan.planned)) in
+    here.plan (at_moment s now).keys (means_now old s now stands)
+
+carried : (old mid : StoreState) (now : ℕ) (ds : Cmds) (b : Batch) (answer : Reply) (until : Option ℕ) (moment : ℕ) → IsPlanAt old mid now ds b answer until moment → (s : State) → StandsFor old s
+    → (answer ≡ (fold (at_moment s now).keys (moment_at s now) ds).0) × Means (after old.rows b) (moment_at s now) (fold (at_moment s now).keys (moment_at s now) ds).1
+carried old mid now ds b answer until moment plan s stands =
+    plan_means old.rows (moment_at s now) old.sequence (at_moment s now).keys ds b answer until (means_now old s now stands) (plan_for old mid now ds b answer until moment plan s stands)
+
+-- a plan that was carried out answers as the machine, and leaves a store that stands for the machine's state
+pub plays : (old mid new : StoreState) (now : ℕ) (ds : Cmds) (b : Batch) (answer : Reply) (until : Option ℕ) (moment planned : ℕ) → IsPlanAt old mid now ds b answer until moment
+    → planned ≡ planned_for b → new.rows ≡ after mid.rows b → new.floor ≡ moment → new.written ≡ (if planned == 0 then mid.written else new.floor) → Plays old new now ds answer
+plays old mid new now ds b answer until moment planned plan bytes rows floor written = record {
+  answer = λ s stands.
+      ap (λ (r : Option Reply × State). r.0) (step_is s now ds) ∙ ap (λ (r : Reply). Some r) (sym (carried old mid now ds b answer until moment plan s stands).0);
+  stands = λ s stands. subst (λ (r : Option Reply × State). StandsFor new r.1) (sym (step_is s now ds)) (by_planned s stands planned refl);
+}
+  where
+    same : after old.rows b ≡ new.rows
+    same = ap (λ (c : Rows). after c b) (sym plan.same.rows) ∙ sym rows
+
+    moment_so : (s : State) → StandsFor old s → moment ≡ moment_at s now
+    moment_so s stands = moment_is old mid s now moment plan.same stands plan.at
+
+    -- the state after the commands
+    after_it : State → State
+    after_it s = record { keys = (fold (at_moment s now).keys (moment_at s now) ds).1; floor = moment_at s now; pins = s.pins }
+
+    by_planned : (s : State) → StandsFor old s → (n : ℕ) → planned ≡ n → StandsFor new (after_it s)
+    by_planned s stands zero none =
+        let same_rows : after old.rows b ≡ old.rows = ap (after old.rows) (none_planned b (sym bytes ∙ none)) ∙ after-empty old.rows in
+        let same_written : new.written ≡ old.written = written ∙ ap (λ (n : ℕ). if n == 0 then mid.written else new.floor) none ∙ plan.same.written in
+        record {
+          at_last_batch = stands.at_last_batch;
+          means = means_alike old.rows new.rows old.written new.written stands.at_last_batch (sym same_rows ∙ same) (sym same_written) stands.means;
+          past = omega (arith, floor, same_written, stands.past, stands.floor, moment_so s stands);
+          keys = means_one old.rows (moment_at s now) (after_it s).keys (alive stands.at_last_batch (moment_at s now))
+              (subst (λ (c : Rows). Means c (moment_at s now) (after_it s).keys) same_rows (carried old mid now ds b answer until moment plan s stands).1)
+              (means_later old.rows old.written (moment_at s now) stands.at_last_batch (omega (arith, stands.past, stands.floor)) stands.means)
+              ∙ ap (alive stands.at_last_batch) (sym (floor ∙ moment_so s stands));
+          floor = sym (floor ∙ moment_so s stands);
+          free = stands.free;
+        }
+    by_planned s stands (suc n) some =
+        let same_written : new.written ≡ moment = written ∙ ap (λ (n : ℕ). if n == 0 then mid.written else new.floor) some ∙ ap (λ b. cond {A = ℕ} b mid.written new.floor) (not_none (suc n) (omega arith)) ∙ floor in
+        let means : Means (after old.rows b) (moment_at s now) (after_it s).keys = (carried old mid now ds b answer until moment plan s stands).1 in
+        record {
+          at_last_batch = (after_it s).keys;
+          means = means_alike (after old.rows b) new.rows (moment_at s now) new.written (after_it s).keys same (sym (same_written ∙ moment_so s stands)) means;
+          past = omega (arith, floor, same_written);
+          keys = sym (ap (alive (after_it s).keys) (floor ∙ moment_so s stands) ∙ alive_means (after old.rows b) (moment_at s now) (after_it s).keys means);
+          floor = sym (floor ∙ moment_so s stands);
+          free = stands.free;
+        }
+
+-- and so many bytes has its body
+pub body_is_planned : (old mid : StoreState) (now : ℕ) (ds : Cmds) (b : Batch) (answer : Reply) (until : Option ℕ) (moment planned : ℕ) → IsPlanAt old mid now ds b answer until moment
+    → planned ≡ planned_for b → (s : State) → StandsFor old s → IsBodyOfPlan old now s ds planned
+body_is_planned old mid now ds b answer until moment planned plan is s stands =
+    record { batch = b; answer = answer; until = until; plan = plan_for old mid now ds b answer until moment plan s stands; bytes = is }
+
+-- ---- what a crash leaves
+
+-- a log that comes to the rows before a call comes to the keys before it
+keys_before : (old : StoreState) (s : State) (now : ℕ) → StandsFor old s → (c : Bytes) → ComesTo old.rows old.written c → ComesToKeys (moment_at s now) (at_moment s now).keys c
+keys_before old s now stands =
+    comes_to_keys old.rows old.written (moment_at s now) stands.at_last_batch (at_moment s now).keys stands.means (omega (arith, stands.past, stands.floor))
+    (stands_later old s stands (moment_at s now) (omega (arith, stands.floor)))
+
+-- the log comes to the keys before a call, or to those after it
+pub keys_come : (before now_disk : Disk) (old mid : StoreState) (now : ℕ) (ds : Cmds) (b : Batch) (answer : Reply) (until : Option ℕ) (moment : ℕ) → IsPlanAt old mid now ds b answer until moment
+    → (mid.log.unsure ≡ false → IsKept before mid → Touches log_file before now_disk (IsEitherRows mid.rows mid.written (after mid.rows b) moment))
+    → old.log.unsure ≡ false → IsKept before old → (s : State) → StandsFor old s → Touches log_file before now_disk (IsBeforeOrAfter s now ds)
+keys_come before now_disk old mid now ds b answer until moment plan run sure kept s stands =
+    run_weaken log_file before now_disk (IsEitherRows mid.rows mid.written (after mid.rows b) moment) (IsBeforeOrAfter s now ds)
+    (run (ap (λ (l : LogState). l.unsure) plan.same.log ∙ sure) (same_kept before old mid plan.same kept))
+    (λ c is. ⊎_elim (λ (e : ComesTo mid.rows mid.written c). inl (first c e)) (λ (e : ComesTo (after mid.rows b) moment c). inr (second c e)) is)
+  where
+    first : (c : Bytes) → ComesTo mid.rows mid.written c → ComesToKeys (moment_at s now) (at_moment s now).keys c
+    first c is = keys_before old s now stands c (subst (λ (t : ℕ). ComesTo old.rows t c) plan.same.written (subst (λ (rows : Rows). ComesTo rows mid.written c) plan.same.rows is))
+
+    keys : RedisMap
+    keys = (fold (at_moment s now).keys (moment_at s now) ds).1
+
+    means : Means (after mid.rows b) (moment_at s now) keys
+    means = subst (λ (rows : Rows). Means (after rows b) (moment_at s now) keys) (sym plan.same.rows) (carried old mid now ds b answer until moment plan s stands).1
+
+    second : (c : Bytes) → ComesTo (after mid.rows b) moment c → ComesToKeys (moment_at s now) (step s (entry now ds)).1.keys c
+    second c is = subst (λ (r : Option Reply × State). ComesToKeys (moment_at s now) r.1.keys c) (sym (step_is s now ds))
+        (comes_to_keys (after mid.rows b) (moment_at s now) (moment_at s now) keys keys means (omega arith) (sym (alive_means (after mid.rows b) (moment_at s now) keys means)) c
+        (subst (λ (t : ℕ). ComesTo (after mid.rows b) t c) (moment_is old mid s now moment plan.same stands plan.at) is))
+
+-- where no call was made, to those before it
+pub keys_stay : (disk : Disk) (old : StoreState) (now : ℕ) (ds : Cmds) → old.log.unsure ≡ false → IsKept disk old → (s : State) → StandsFor old s → Touches log_file disk disk (IsBeforeOrAfter s now ds)
+keys_stay disk old now ds sure kept s stands =
+    run_weaken log_file disk disk (IsEitherRows old.rows old.written old.rows old.written) (IsBeforeOrAfter s now ds)
+    (still_comes disk old old.rows old.written sure kept)
+    (λ c is. inl (keys_before old s now stands c (⊎_elim (λ (e : ComesTo old.rows old.written c). e) (λ (e : ComesTo old.rows old.written c). e) is)))

@@ -1,0 +1,5 @@
+pub mod Appending
+pub mod Carrying
+pub mod Replaying
+pub mod Paging
+pub mod Walking

@@ -1,0 +1,277 @@
+-- A page of the map at a sequence, read row by row.
+use Rattle.std.proofs.Common.{◌≡◌, ℕ, zero, suc, ◌+◌, ◌<◌, ◌≤◌, List, [], ◌∷◌, ◌++◌, refl, sym, ap, subst, ◌∙◌, Bool, true, false, cond, length, take, drop, append_assoc, append-nil, Option, Some, None, arith, inl, inr}
+use Rattle.std.specs.Prelude.{nat_le, nat_eq, not, ◌&&◌, IsTrue, filter}
+use Rattle.std.proofs.lemmas.List.{length-append, drop_all, drop_more, take-append-le, take_all}
+use Rattle.std.proofs.lemmas.Option.{slice_get_within, get_or_from_slice_get}
+use Rattle.std.specs.Cmp.Lexicographic.{nat_list_cmp_total}
+use Rattle.batch_codec.specs.EntryLists.{under}
+use Rattle.std.specs.List.{Contains, slice_get, starts_with}
+use Rattle.std.specs.List.Sorted.{IsPartitionPoint}
+use Rattle.std.specs.declared.cmp.Ordering.{Ordering}
+use Rattle.std.specs.declared.cmp.Ordering.TheVariants.{Less, Equal, Greater}
+use Rattle.std.specs.Ordering.{nat_cmp, is_lt, ordering_then}
+use Rattle.std.proofs.lemmas.Bool.Decides.{nat_tests}
+use Rattle.kv_base.specs.Inversions.{both_first, both_second}
+use Rattle.kv_base.specs.Map.{Bytes, byte_cmp, exact, same, same_is}
+use Rattle.row_model.specs.declared.row.Row.{Row}
+use Rattle.row_model.specs.Rows.{at}
+use Rattle.row_model.specs.RowOrder.{is_below, is_ordered, leads}
+use Rattle.row_model.specs.RowLaws.{there_behind, there_cases, there_first}
+use Rattle.row_model.specs.RowSearch.{leads_each}
+use Rattle.lives_model.specs.declared.view.LiveRow.{LiveRow}
+use Rattle.lives_model.specs.LiveRowLists.{pairs}
+use Rattle.lives_model.specs.Page.{is_in_page, page}
+use Rattle.log_store.specs.Walk.{greater, hides, value_shown, listed, walked}
+use Rattle.log_store.proofs.Walking.{entries_walked, raw_order}
+
+-- ---- beginnings
+
+no_more : (a b : Bool) → b ≡ false → (a && b) ≡ false
+no_more true b e = e
+no_more false b e = refl
+
+starts_more : (r p : ℕ) (rs ps : Bytes) → starts_with nat_eq (r ∷ rs) (p ∷ ps) ≡ (nat_eq p r && starts_with nat_eq rs ps)
+starts_more r p rs ps = refl
+
+other_first : (r p : ℕ) (rs ps : Bytes) → nat_eq p r ≡ false → starts_with nat_eq (r ∷ rs) (p ∷ ps) ≡ false
+other_first r p rs ps e = ap (λ b. b && starts_with nat_eq rs ps) e
+
+-- what is below a beginning does not begin with it
+under_prefix : (raw prefix : Bytes) → byte_cmp raw prefix ≡ Less → starts_with nat_eq raw prefix ≡ false
+under_prefix [] [] e = absurd (cc)
+under_prefix [] (p ∷ ps) e = refl
+under_prefix (r ∷ rs) [] e = absurd (cc)
+under_prefix (r ∷ rs) (p ∷ ps) e = by_order (under_prefix rs ps) (nat_cmp r p) refl e
+  where
+    by_order : (byte_cmp rs ps ≡ Less → starts_with nat_eq rs ps ≡ false) → (o : Ordering) → nat_cmp r p ≡ o → ordering_then o (byte_cmp rs ps) ≡ Less → starts_with nat_eq (r ∷ rs) (p ∷ ps) ≡ false
+    by_order behind Less f g = other_first r p rs ps (grind (arith, nat_tests))
+    by_order behind Equal f g = no_more (nat_eq p r) (starts_with nat_eq rs ps) (behind g)
+    by_order behind Greater f g = absurd (cc)
+
+-- what does not begin so and is not below, has nothing above it that does
+past_prefix : (prefix raw other : Bytes) → starts_with nat_eq raw prefix ≡ false → (byte_cmp raw prefix ≡ Less → ⊥) → (byte_cmp raw other ≡ Greater → ⊥) → starts_with nat_eq other prefix ≡ false
+past_prefix [] raw other e low high = let never : true ≡ false = e in absurd (cc)
+past_prefix (p ∷ ps) [] other e low high = absurd (low refl)
+past_prefix (p ∷ ps) (r ∷ rs) [] e low high = absurd (high refl)
+past_prefix (p ∷ ps) (r ∷ rs) (o ∷ os) e low high = by_first (past_prefix ps rs os) (nat_cmp r p) refl low
+  where
+    Behind : Type 0
+    Behind = starts_with nat_eq rs ps ≡ false → (byte_cmp rs ps ≡ Less → ⊥) → (byte_cmp rs os ≡ Greater → ⊥) → starts_with nat_eq os ps ≡ false
+
+    above : p < r → (d : Ordering) → nat_cmp r o ≡ d → (ordering_then d (byte_cmp rs os) ≡ Greater → ⊥) → starts_with nat_eq (o ∷ os) (p ∷ ps) ≡ false
+    above less Less f high = other_first o p os ps (grind (arith, nat_tests))
+    above less Equal f high = other_first o p os ps (grind (arith, nat_tests))
+    above less Greater f high = absurd (high refl)
+
+    level_with : Behind → p ≡ r → (byte_cmp rs ps ≡ Less → ⊥) → (d : Ordering) → nat_cmp r o ≡ d → (ordering_then d (byte_cmp rs os) ≡ Greater → ⊥) → starts_with nat_eq (o ∷ os) (p ∷ ps) ≡ false
+    level_with behind same low Less f high = other_first o p os ps (grind (arith, nat_tests))
+    level_with behind same low Equal f high =
+        let first : nat_eq p r ≡ true = grind (arith, nat_tests) in
+        no_more (nat_eq p o) (starts_with nat_eq os ps) (behind (sym (ap (λ b. b && starts_with nat_eq rs ps) first) ∙ e) low high)
+    level_with behind same low Greater f high = absurd (high refl)
+
+    by_first : Behind → (d : Ordering) → nat_cmp r p ≡ d → (ordering_then d (byte_cmp rs ps) ≡ Less → ⊥) → starts_with nat_eq (o ∷ os) (p ∷ ps) ≡ false
+    by_first behind Less f low = absurd (low refl)
+    by_first behind Equal f low = level_with behind (grind (arith, nat_tests)) low (nat_cmp r o) refl high
+    by_first behind Greater f low = above (grind (arith, nat_tests)) (nat_cmp r o) refl high
+
+-- ---- where a page begins
+
+is_less : (o : Ordering) → is_lt o ≡ true → o ≡ Less
+is_less Less e = refl
+is_less Equal e = absurd (cc)
+is_less Greater e = absurd (cc)
+
+-- what is below where a page begins is not in it
+under_page : (from prefix raw value : Bytes) → is_lt (byte_cmp raw (greater from prefix)) ≡ true → is_in_page from prefix (raw, value) ≡ false
+under_page from prefix raw value = by_test (is_lt (byte_cmp from prefix))
+  where
+    by_test : (b : Bool) → is_lt (byte_cmp raw (cond b prefix from)) ≡ true → is_in_page from prefix (raw, value) ≡ false
+    by_test true e = ap (λ b. b && not (is_lt (byte_cmp raw from))) (under_prefix raw prefix (is_less (byte_cmp raw prefix) e))
+    by_test false e = no_more (starts_with nat_eq raw prefix) (not (is_lt (byte_cmp raw from))) (ap not e)
+
+-- what is not below is below neither
+pub record IsNotUnder (from prefix raw : Bytes) : Type 0 where
+  pub from_is : is_lt (byte_cmp raw from) ≡ false
+  pub prefix_is : byte_cmp raw prefix ≡ Less → ⊥
+
+not_less : (o : Ordering) → (o ≡ Less → ⊥) → is_lt o ≡ false
+not_less Less e = absurd (e refl)
+not_less Equal e = refl
+not_less Greater e = refl
+
+never_less : (o : Ordering) → is_lt o ≡ false → o ≡ Less → ⊥
+never_less o e f = let never : true ≡ false = sym (ap is_lt f) ∙ e in absurd (cc)
+
+pub not_under : (from prefix raw : Bytes) → is_lt (byte_cmp raw (greater from prefix)) ≡ false → IsNotUnder from prefix raw
+not_under from prefix raw = by_test (is_lt (byte_cmp from prefix)) refl
+  where
+    turned : (o : Ordering) → byte_cmp prefix from ≡ o → is_lt (byte_cmp from prefix) ≡ false → byte_cmp raw prefix ≡ Less → byte_cmp raw from ≡ Less
+    turned Less e test f = nat_list_cmp_total.trans raw prefix from f e
+    turned Equal e test f = subst (λ (k : Bytes). byte_cmp raw k ≡ Less) (exact prefix from e) f
+    turned Greater e test f = absurd (never_less (byte_cmp from prefix) test (under prefix from e))
+
+    by_test : (b : Bool) → is_lt (byte_cmp from prefix) ≡ b → is_lt (byte_cmp raw (cond b prefix from)) ≡ false → IsNotUnder from prefix raw
+    by_test true t e = record {
+      from_is = not_less (byte_cmp raw from) (λ f. never_less (byte_cmp raw prefix) e (nat_list_cmp_total.trans raw from prefix f (is_less (byte_cmp from prefix) t)));
+      prefix_is = never_less (byte_cmp raw prefix) e;
+    }
+    by_test false t e = record {
+      from_is = e;
+      prefix_is = λ f. never_less (byte_cmp raw from) e (turned (byte_cmp prefix from) refl t f);
+    }
+
+-- ---- a row that is listed, and one that is not in the page
+
+filter-listed : (p : Bytes × Bytes → Bool) (raw : Bytes) (o : Option Bytes) (rest : List (Bytes × Bytes)) → ((value : Bytes) → p (raw, value) ≡ true) → filter p (listed raw o rest) ≡ listed raw o (filter p rest)
+filter-listed p raw None rest is = refl
+filter-listed p raw (Some value) rest is = ap (λ b. cond b ((raw, value) ∷ filter p rest) (filter p rest)) (is value)
+
+filter-unlisted : (p : Bytes × Bytes → Bool) (raw : Bytes) (o : Option Bytes) (rest : List (Bytes × Bytes)) → ((value : Bytes) → p (raw, value) ≡ false) → filter p (listed raw o rest) ≡ filter p rest
+filter-unlisted p raw None rest is = refl
+filter-unlisted p raw (Some value) rest is = ap (λ b. cond b ((raw, value) ∷ filter p rest) (filter p rest)) (is value)
+
+-- the row in front is below where the page begins
+abbrev IsUnder : Bytes → Option Row → Type 0
+IsUnder start None = Unit {0}
+IsUnder start (Some front) = is_below start front ≡ true
+
+not_hidden : (s : ℕ) (start : Bytes) (front : Option Row) (row : Row) → IsUnder start front → is_below start row ≡ false → hides s front row.raw ≡ false
+not_hidden s start None row low is = refl
+not_hidden s start (Some front) row low is = by_key (same row.raw front.raw) refl
+  where
+    by_key : (k : Bool) → same row.raw front.raw ≡ k → (k && nat_le front.seq s) ≡ false
+    by_key true t =
+        let never : true ≡ false = sym low ∙ ap (λ (k : Bytes). is_lt (byte_cmp k start)) (sym (same_is row.raw front.raw t)) ∙ is in
+        absurd (cc)
+    by_key false t = refl
+
+-- rows below where the page begins give nothing
+skipped : (p : Bytes × Bytes → Bool) (s : ℕ) (start : Bytes) → ((raw value : Bytes) → is_lt (byte_cmp raw start) ≡ true → p (raw, value) ≡ false) → (rows : List Row) (place : ℕ) (front : Option Row) → IsUnder start front
+    → IsPartitionPoint (λ row. is_below start row ≡ true) (λ row. is_below start row ≡ false) rows place → filter p (walked s front rows) ≡ filter p (walked s None (drop place rows))
+unfolding walked
+skipped p s start below [] zero front low split = refl
+skipped p s start below [] (suc place) front low split = refl
+skipped p s start below (row ∷ rows) zero front low split =
+    ap (λ h. filter p (listed row.raw (cond (nat_le row.seq s && not h) row.value None) (walked s (Some row) rows))) (not_hidden s start front row low (split.1 0 row (omega arith) (omega arith)))
+skipped p s start below (row ∷ rows) (suc place) front low split =
+    let here = split.0 0 row (omega arith) (omega arith) in
+    filter-unlisted p row.raw (value_shown s front row) (walked s (Some row) rows) (λ value. below row.raw value here)
+    ∙ skipped p s start below rows place (Some row) here ((λ k d low high. split.0 (suc k) d (omega arith) (omega arith)), (λ k d low high. split.1 (suc k) d (omega arith) (omega arith)))
+
+-- rows of which none is in the page give nothing
+nothing_more : (p : Bytes × Bytes → Bool) (s : ℕ) (rows : List Row) (front : Option Row) → ((row : Row) → Contains rows row → (value : Bytes) → p (row.raw, value) ≡ false) → filter p (walked s front rows) ≡ []
+unfolding walked
+nothing_more p s [] front is = refl
+nothing_more p s (row ∷ rows) front is =
+    filter-unlisted p row.raw (value_shown s front row) (walked s (Some row) rows) (is row (there_first rows row))
+    ∙ nothing_more p s rows (Some row) (λ other there. is other (there_behind rows other row there))
+
+-- ---- a page that is read
+
+length-pairs : (rows : List LiveRow) → length (pairs rows) ≡ length rows
+length-pairs [] = refl
+length-pairs (row ∷ rows) = let behind = length-pairs rows in omega (arith, behind)
+
+-- With what is in the page from this place on, the rows that were found come to the page.
+pub record IsRead (rows : List Row) (s : ℕ) (from prefix : Bytes) (limit : ℕ) (found : List LiveRow) (front : Option Row) (place : ℕ) : Type 0 where
+  pub room : length found ≤ limit
+  pub comes_to : take limit (pairs found ++ filter (is_in_page from prefix) (walked s front (drop place rows))) ≡ page (at rows s) from prefix limit
+
+pub page_begins : (rows : List Row) (s : ℕ) (from prefix start : Bytes) (limit : ℕ) (found : List LiveRow) (place : ℕ) → found ≡ [] → IsTrue (is_ordered rows) → start ≡ greater from prefix
+    → IsPartitionPoint (λ row. is_below start row ≡ true) (λ row. is_below start row ≡ false) rows place → IsRead rows s from prefix limit found None place
+unfolding page
+page_begins rows s from prefix start limit found place none ordered is split =
+    let p = is_in_page from prefix in
+    record {
+      room = let long = ap length none in omega arith;
+      comes_to = ap (λ (found : List LiveRow). take limit (pairs found ++ filter p (walked s None (drop place rows)))) none
+          ∙ ap (take limit) (sym (skipped p s start (λ raw value low. under_page from prefix raw value (ap (λ (k : Bytes). is_lt (byte_cmp raw k)) (sym is) ∙ low)) rows place None tt split))
+          ∙ ap (λ (es : List (Bytes × Bytes)). take limit (filter p es)) (sym (entries_walked rows s ordered));
+    }
+
+rest_at : {X : Type 0} (xs : List X) (i : ℕ) (x : X) → Some x ≡ slice_get xs i → drop i xs ≡ x ∷ drop (i + 1) xs
+rest_at xs i x is = drop_more xs i x (slice_get_within xs i x (sym is)) ∙ ap (λ y. y ∷ drop (i + 1) xs) (get_or_from_slice_get xs i x x (sym is))
+
+pub page_goes_on : (rows : List Row) (s : ℕ) (from prefix : Bytes) (limit : ℕ) (found new : List LiveRow) (front : Option Row) (place : ℕ) (row : Row) → IsRead rows s from prefix limit found front place
+    → Some row ≡ slice_get rows place → length found < limit → starts_with nat_eq row.raw prefix ≡ true → is_lt (byte_cmp row.raw from) ≡ false
+    → pairs new ≡ pairs found ++ listed row.raw (value_shown s front row) [] → IsRead rows s from prefix limit new (Some row) (place + 1)
+unfolding walked
+page_goes_on rows s from prefix limit found new front place row was here room starts low is =
+    let p = is_in_page from prefix in
+    let rest : List (Bytes × Bytes) = filter p (walked s (Some row) (drop (place + 1) rows)) in
+    let o : Option Bytes = value_shown s front row in
+    record {
+      room = omega (arith, length-pairs new, length-pairs found, ap length is, length-append (pairs found) (listed row.raw o []), few o);
+      comes_to = ap (λ (es : List (Bytes × Bytes)). take limit (es ++ rest)) is
+          ∙ ap (take limit) (append_assoc (pairs found) (listed row.raw o []) rest ∙ ap (λ es. pairs found ++ es) (listed-append o rest))
+          ∙ ap (λ (es : List (Bytes × Bytes)). take limit (pairs found ++ es))
+          (sym (ap (λ (rs : List Row). filter p (walked s front rs)) (rest_at rows place row here)
+          ∙ filter-listed p row.raw o (walked s (Some row) (drop (place + 1) rows)) (λ value. ap (λ b. b && not (is_lt (byte_cmp row.raw from))) starts ∙ ap not low)))
+          ∙ was.comes_to;
+    }
+  where
+    few : (o : Option Bytes) → length (listed row.raw o []) ≤ 1
+    few None = omega arith
+    few (Some value) = omega arith
+
+    listed-append : (o : Option Bytes) (rest : List (Bytes × Bytes)) → listed row.raw o [] ++ rest ≡ listed row.raw o rest
+    listed-append None rest = refl
+    listed-append (Some value) rest = refl
+
+-- a row from where the page begins on is not below
+pub not_under_at : (rows : List Row) (from prefix start : Bytes) (place i : ℕ) (row : Row) → start ≡ greater from prefix
+    → IsPartitionPoint (λ row. is_below start row ≡ true) (λ row. is_below start row ≡ false) rows place → place ≤ i → Some row ≡ slice_get rows i → IsNotUnder from prefix row.raw
+not_under_at rows from prefix start place i row is split low here =
+    let there : is_below start row ≡ false = subst (λ (r : Row). is_below start r ≡ false) (get_or_from_slice_get rows i row row (sym here)) (split.1 i row low (slice_get_within rows i row (sym here))) in
+    not_under from prefix row.raw (ap (λ (k : Bytes). is_lt (byte_cmp row.raw k)) (sym is) ∙ there)
+
+-- what was found is the page: it is full, or no row is left, or none that is left is in it
+with_rest : (limit : ℕ) (found : List LiveRow) (rest : List (Bytes × Bytes)) → length found ≤ limit → rest ≡ [] → take limit (pairs found ++ rest) ≡ pairs found
+with_rest limit found rest room none =
+    ap (λ (es : List (Bytes × Bytes)). take limit (pairs found ++ es)) none ∙ ap (take limit) (append-nil (pairs found))
+    ∙ take_all limit (pairs found) (omega (arith, length-pairs found))
+
+pub page_is_full : (rows : List Row) (s : ℕ) (from prefix : Bytes) (limit : ℕ) (found : List LiveRow) (front : Option Row) (place : ℕ) → IsRead rows s from prefix limit found front place
+    → limit ≤ length found → pairs found ≡ page (at rows s) from prefix limit
+page_is_full rows s from prefix limit found front place was full =
+    let long = length-pairs found in
+    sym (take-append-le limit (pairs found) (filter (is_in_page from prefix) (walked s front (drop place rows))) (omega (arith, long))
+    ∙ take_all limit (pairs found) (omega (arith, long, was.room))) ∙ was.comes_to
+
+pub page_ends : (rows : List Row) (s : ℕ) (from prefix : Bytes) (limit : ℕ) (found : List LiveRow) (front : Option Row) (place : ℕ) → IsRead rows s from prefix limit found front place
+    → length rows ≤ place → pairs found ≡ page (at rows s) from prefix limit
+unfolding walked
+page_ends rows s from prefix limit found front place was all =
+    sym (with_rest limit found (filter (is_in_page from prefix) (walked s front (drop place rows))) was.room
+    (ap (λ (rs : List Row). filter (is_in_page from prefix) (walked s front rs)) (drop_all place rows all))) ∙ was.comes_to
+
+ordered_behind : (rows : List Row) (place : ℕ) → is_ordered rows ≡ true → is_ordered (drop place rows) ≡ true
+unfolding is_ordered
+ordered_behind [] zero h = h
+ordered_behind [] (suc place) h = h
+ordered_behind (row ∷ rows) zero h = h
+ordered_behind (row ∷ rows) (suc place) h = ordered_behind rows place (both_second (leads row rows) (is_ordered rows) h)
+
+pub page_is_past : (rows : List Row) (s : ℕ) (from prefix : Bytes) (limit : ℕ) (found : List LiveRow) (front : Option Row) (place : ℕ) (row : Row) → IsRead rows s from prefix limit found front place → IsTrue (is_ordered rows)
+    → Some row ≡ slice_get rows place → starts_with nat_eq row.raw prefix ≡ false → (byte_cmp row.raw prefix ≡ Less → ⊥) → pairs found ≡ page (at rows s) from prefix limit
+unfolding is_ordered
+page_is_past rows s from prefix limit found front place row was ordered here past low =
+    sym (with_rest limit found (filter p (walked s front (drop place rows))) was.room
+    (ap (λ (rs : List Row). filter p (walked s front rs)) (rest_at rows place row here) ∙ nothing_more p s (row ∷ behind) front each)) ∙ was.comes_to
+  where
+    p : Bytes × Bytes → Bool
+    p = is_in_page from prefix
+
+    behind : List Row
+    behind = drop (place + 1) rows
+
+    lead : leads row behind ≡ true
+    lead = both_first (leads row behind) (is_ordered behind) (sym (ap is_ordered (rest_at rows place row here)) ∙ ordered_behind rows place ordered)
+
+    each : (other : Row) → Contains (row ∷ behind) other → (value : Bytes) → p (other.raw, value) ≡ false
+    each other there value =
+        ap (λ b. b && not (is_lt (byte_cmp other.raw from))) (elim (there_cases behind other row there) [
+          | inl e ↦ subst (λ (r : Row). starts_with nat_eq r.raw prefix ≡ false) e past
+          | inr k ↦ past_prefix prefix row.raw other.raw past low (raw_order row other (leads_each row behind other lead k))
+        ])

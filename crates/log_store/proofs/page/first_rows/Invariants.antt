@@ -1,0 +1,7 @@
+use Rattle.std.specs.Option.{option_map}
+use Rattle.row_model.specs.RowRefs.{row_seen}
+use Rattle.log_store.proofs.Paging.{IsRead}
+use Rattle.log_store.proofs.page.first_rows.Given as goal
+
+abbrev pub invariant-loop-at : goal.invariant-loop-at
+invariant-loop-at l = IsRead l.table l.sequence l.from l.prefix l.limit l.found (option_map row_seen l.front) l.at

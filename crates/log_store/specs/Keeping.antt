@@ -1,0 +1,161 @@
+-- What a store keeps: rows in memory, and on the disk a log from which they can be made again.
+use Rattle.std.specs.Prelude.{◌≡◌, ◌⊎◌, ◌≤◌, ◌+◌, ℕ, Bool, true, false, List, [], ◌∷◌, ◌++◌, Some, Ok, Err}
+use Rattle.kv_base.specs.Map.{Bytes}
+use Rattle.kv_base.specs.declared.name.FileName.{FileName}
+use Rattle.kv_base.specs.declared.name.FileName.TheVariants.{Segment}
+use Rattle.kv_base.specs.declared.fault.StoreFault.{StoreFault}
+use Rattle.kv_base.specs.declared.fault.StoreFault.TheVariants as fault
+use Rattle.kv_outside.specs.Causes.{Rose}
+use Rattle.kv_outside.specs.Disk.{Disk, Leaves}
+use Rattle.gated_log.specs.States.{LogState, Rests, Wavers}
+use Rattle.batch_codec.specs.Batches.{Batch, after}
+use Rattle.batch_codec.specs.declared.record.Record.{Record}
+use Rattle.wal_log.specs.Segments.{records_of}
+use Rattle.redis_model.specs.declared.command.Cmds.{Cmds}
+use Rattle.redis_model.specs.Machine.{State, fold}
+use Rattle.redis_model.specs.Value.{RedisMap, alive}
+use Rattle.lives_model.specs.Rows.{Rows}
+use Rattle.lives_model.specs.Means.{Means}
+use Rattle.log_store.specs.Planned.{IsOfCommands}
+use Rattle.log_store.specs.Recover.{Recovered, by_records, recovered_by, recovered, with_record}
+
+-- the log's only segment
+abbrev pub log_file : FileName
+log_file = Segment 1
+
+-- ---- a store and its log
+
+-- What contracts see of a store.
+pub record StoreState : Type 0 where
+  -- each raw key with its newest value
+  pub rows : Rows
+  -- the greatest reading of the clock so far, in milliseconds
+  pub floor : ℕ
+  -- the moment of the last batch, 0 before the first
+  pub written : ℕ
+  pub log : LogState
+  -- the sequence of the last batch
+  pub sequence : ℕ
+  -- how many bytes the body has that the last call planned to write, 0 where there was nothing to write
+  pub planned : ℕ
+
+-- The store stands for this state of the machine: its rows mean a map at the moment of the last batch, the keys are what
+-- of it is alive at the floor, and nobody has a pin.
+pub record StandsFor (store : StoreState) (s : State) : Type 0 where
+  pub at_last_batch : RedisMap
+  pub means : Means store.rows store.written at_last_batch
+  pub past : store.written ≤ store.floor
+  pub keys : s.keys ≡ alive at_last_batch store.floor
+  pub floor : s.floor ≡ store.floor
+  pub free : s.pins ≡ []
+
+-- One more body stands behind these, whose append failed: that of the next record, which is not earlier than they are,
+-- and whose batch carries commands out on their rows.
+pub record IsAttempt (bodies : List Bytes) (tried : Bytes) (before : Recovered) (r : Record) : Type 0 where
+  pub sequence : r.seq ≡ before.sequence + 1
+  pub later : before.floor ≤ r.moment
+  pub of : IsOfCommands before.rows r.moment before.sequence r.batch
+  pub made : recovered_by (records_of (bodies ++ tried ∷ [])) ≡ Ok (with_record before r)
+
+pub record Attempted (disk : Disk) (log : LogState) (bodies : List Bytes) (state : Recovered) : Type 0 where
+  pub tried : Bytes
+  pub record_tried : Record
+  pub wavers : Wavers disk log bodies tried
+  pub attempt : IsAttempt bodies tried state record_tried
+
+-- The log has these bodies, and where it is unsure maybe one more.
+abbrev pub Holds : Bool → Disk → LogState → List Bytes → Recovered → Type 0
+Holds true disk log bodies state = Attempted disk log bodies state
+Holds false disk log bodies state = Rests disk log bodies
+
+-- The log has records that come to the rows in memory and to the moment of the last batch. The floor in memory may have
+-- risen since, by calls that wrote nothing.
+pub record IsKept (disk : Disk) (store : StoreState) : Type 0 where
+  pub bodies : List Bytes
+  pub records : List Record
+  pub state : Recovered
+  pub name : store.log.name ≡ log_file
+  pub read : records_of bodies ≡ Ok records
+  pub made : by_records records ≡ Ok state
+  pub rows : state.rows ≡ store.rows
+  pub written : state.floor ≡ store.written
+  pub last : state.sequence ≡ store.sequence
+  pub holds : Holds store.log.unsure disk store.log bodies state
+
+-- ---- what the disk comes to
+
+-- these bytes of the log come to these rows, whose last batch has this moment
+pub record ComesTo (rows : Rows) (written : ℕ) (bytes : Bytes) : Type 0 where
+  pub state : Recovered
+  pub is : recovered bytes ≡ Ok state
+  pub rows_are : state.rows ≡ rows
+  pub written_is : state.floor ≡ written
+
+-- They come to rows that mean a map at the moment of their last batch. These keys are what of it is alive at this
+-- moment, which is not before that one.
+pub record ComesToKeys (moment : ℕ) (keys : RedisMap) (bytes : Bytes) : Type 0 where
+  pub state : Recovered
+  pub is : recovered bytes ≡ Ok state
+  pub at_last_batch : RedisMap
+  pub means : Means state.rows state.floor at_last_batch
+  pub past : state.floor ≤ moment
+  pub keys_are : keys ≡ alive at_last_batch moment
+
+-- each image of the log that a crash may leave now comes to these rows, whose last batch has this moment
+abbrev pub Keeps : Disk → Rows → ℕ → Type 0
+Keeps disk rows written = Leaves disk log_file (ComesTo rows written)
+
+-- It comes to these rows, or to them after one batch more: one that carries commands out on them, tried at a moment that is
+-- not before that of their last batch.
+pub record KeepsOrMore (disk : Disk) (rows : Rows) (written sequence : ℕ) : Type 0 where
+  pub batch : Batch
+  pub moment : ℕ
+  pub later : written ≤ moment
+  pub of : IsOfCommands rows moment sequence batch
+  pub leaves : Leaves disk log_file (λ c. ComesTo rows written c ⊎ ComesTo (after rows batch) moment c)
+
+-- It comes to the keys that the store stands for, or to those after commands that were tried at a moment which is not
+-- before the last batch.
+pub record KeepsKeysOrMore (disk : Disk) (store : StoreState) (s : State) (stands : StandsFor store s) : Type 0 where
+  pub commands : Cmds
+  pub moment : ℕ
+  pub later : store.written ≤ moment
+  pub leaves : Leaves disk log_file (λ c. ComesToKeys s.floor s.keys c ⊎ ComesToKeys moment (fold (alive stands.at_last_batch moment) moment commands).1 c)
+
+-- ---- an opening
+
+-- the bytes of the log were read, those that the disk tells, and came to this
+pub record IsStart (disk : Disk) (state : Recovered) : Type 0 where
+  pub bytes : Bytes
+  pub told : (own : Bytes) → disk.reads log_file ≡ Some own → bytes ≡ own
+  pub is : recovered bytes ≡ Ok state
+
+-- The files were read, and what is kept is what the log came to. The floor is the moment of the last batch.
+pub record IsOpened (old new : Disk) (store : StoreState) : Type 0 where
+  pub state : Recovered
+  pub start : IsStart old state
+  pub rows : state.rows ≡ store.rows
+  pub floor : state.floor ≡ store.floor
+  pub written : state.floor ≡ store.written
+  pub sequence : state.sequence ≡ store.sequence
+  pub keeps : IsKept new store
+
+-- The store stands for a state that is not later than this moment, and of its keys these are alive then.
+pub record HasKeptKeys (store : StoreState) (moment : ℕ) (keys : RedisMap) : Type 0 where
+  pub state : State
+  pub stands : StandsFor store state
+  pub past : state.floor ≤ moment
+  pub keys_are : keys ≡ alive state.keys moment
+
+-- the log is damaged, at this place of the file
+pub record IsDamagedLog (old : Disk) (file : FileName) (place : ℕ) : Type 0 where
+  pub bytes : Bytes
+  pub told : (own : Bytes) → old.reads log_file ≡ Some own → bytes ≡ own
+  pub is : recovered bytes ≡ Err place
+  pub named : file ≡ log_file
+
+-- why an opening failed
+abbrev pub FailsToOpen : Disk → ℕ → ℕ → StoreFault → Type 0
+FailsToOpen old before now fault.Failed = Rose before now
+FailsToOpen old before now (fault.Damaged file place) = IsDamagedLog old file place
+FailsToOpen old before now fault.NoMem = Unit {0}

@@ -1,0 +1,7 @@
+pub mod Recover
+pub mod Planned
+pub mod Keeping
+pub mod KeepLaws
+pub mod Playing
+pub mod PlayLaws
+pub mod Walk
