@@ -9,5 +9,6 @@ pub mod Right
 pub mod Good
 pub mod GoodOptions
 pub mod Families
+pub mod Memory
 pub mod Parsing
 pub mod Asked

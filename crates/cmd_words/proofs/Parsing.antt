@@ -1,5 +1,5 @@
 -- The words of a request as its first word and those behind it.
-use Rattle.std.proofs.Common.{◌≡◌, ℕ, List, [], ◌∷◌, Option, Some, None, Result, Ok, Err, ap, sym, ◌∙◌}
+use Rattle.std.proofs.Common.{◌≡◌, ℕ, List, [], ◌∷◌, Option, Some, None, Result, Ok, Err, ap, sym, subst, ◌∙◌}
 use Rattle.std.specs.Prelude.{slice_get}
 use Rattle.std.specs.List.{remove}
 use Rattle.kv_base.specs.Map.{Bytes}
@@ -7,13 +7,14 @@ use Rattle.cmd_words.specs.Words.{lower, weight_of}
 use Rattle.cmd_words.specs.Names.{named}
 use Rattle.cmd_words.specs.Reading.{Tells}
 use Rattle.cmd_words.specs.Table.{read}
-use Rattle.cmd_words.specs.Parsed.{told, by_name, behind, parsed_as, IsParsed}
+use Rattle.cmd_words.specs.Parsed.{told, by_name, behind, parsed_as, MayRunOut, IsParsed}
 use Rattle.cmd_words.specs.declared.name.Name.{Name}
 use Rattle.cmd_words.specs.declared.fault.FaultKind.{FaultKind}
 use Rattle.cmd_words.specs.declared.fault.FaultKind.TheVariants as wrong
 use Rattle.cmd_words.specs.declared.fault.CommandFault.{CommandFault}
 use Rattle.cmd_words.specs.declared.fault.CommandFault.TheVariants as fault
 use Rattle.cmd_words.specs.declared.parsed.Parsed.{Parsed}
+use Rattle.cmd_words.specs.declared.parsed.Parsed.TheVariants.{Data}
 
 -- the words are a first one and the others
 pub record Parts (words : List Bytes) (first : Bytes) (rest : List Bytes) : Type 0 where
@@ -37,10 +38,15 @@ known words rest first o n weight p h e k =
 pub done : (words rest : List Bytes) (first : Bytes) (o : Option Name) (n : Name) (weight : ℕ) (x : Parsed) → Parts words first rest → o ≡ named first → o ≡ Some n → weight ≡ weight_of words → read n weight rest ≡ Ok x → parsed_as words ≡ Ok x
 done words rest first o n weight x p h e k d = known words rest first o n weight p h e k ∙ ap (by_name (lower first)) d
 
-told_kind : (kind : FaultKind) (name : Bytes) (r : CommandFault) (t : Result Parsed FaultKind) (q : Result Parsed CommandFault) → q ≡ by_name name t → Tells (Err kind) t → IsParsed (Err r) (Err (told name kind)) → IsParsed (Err r) q
-told_kind kind name fault.NoMem t q e d m = tt
-told_kind wrong.NoMem name r t q e d m = cc
-told_kind kind name r t q e d m = e ∙ ap (by_name name) d ∙ m
+may_be_named : (name : Bytes) (t : Result Parsed FaultKind) → MayRunOut t → MayRunOut (by_name name t)
+may_be_named name (Ok (Data c)) m = tt
+may_be_named name (Ok p) m = absurd m
+may_be_named name (Err e) m = tt
 
-pub refused : (words rest : List Bytes) (first : Bytes) (o : Option Name) (n : Name) (weight : ℕ) (kind : FaultKind) (r : CommandFault) → Parts words first rest → o ≡ named first → o ≡ Some n → weight ≡ weight_of words → Tells (Err kind) (read n weight rest) → IsParsed (Err r) (Err (told (lower first) kind)) → IsParsed (Err r) (parsed_as words)
-refused words rest first o n weight kind r p h e k d m = told_kind kind (lower first) r (read n weight rest) (parsed_as words) (known words rest first o n weight p h e k) d m
+told_kind : (kind : FaultKind) (name : Bytes) (r : CommandFault) (t : Result Parsed FaultKind) (q : Result Parsed CommandFault) → q ≡ by_name name t → Tells (Err kind) t → MayRunOut t → IsParsed (Err r) (Err (told name kind)) → IsParsed (Err r) q
+told_kind kind name fault.NoMem t q e d may m = subst MayRunOut (sym e) (may_be_named name t may)
+told_kind wrong.NoMem name r t q e d may m = cc
+told_kind kind name r t q e d may m = e ∙ ap (by_name name) d ∙ m
+
+pub refused : (words rest : List Bytes) (first : Bytes) (o : Option Name) (n : Name) (weight : ℕ) (kind : FaultKind) (r : CommandFault) → Parts words first rest → o ≡ named first → o ≡ Some n → weight ≡ weight_of words → Tells (Err kind) (read n weight rest) → MayRunOut (read n weight rest) → IsParsed (Err r) (Err (told (lower first) kind)) → IsParsed (Err r) (parsed_as words)
+refused words rest first o n weight kind r p h e k d may m = told_kind kind (lower first) r (read n weight rest) (parsed_as words) (known words rest first o n weight p h e k) d may m

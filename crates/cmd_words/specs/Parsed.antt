@@ -39,9 +39,15 @@ unfoldable pub parsed_as : List Bytes → Result Parsed CommandFault
 parsed_as [] = Err fault.Unknown
 parsed_as (word ∷ ws) = behind word ws (named word)
 
+-- memory may run out for a data command and for the name of a fault, and for nothing else
+abbrev pub MayRunOut : {E : Type 0} → Result Parsed E → Type 0
+MayRunOut (Ok (Data c)) = Unit {0}
+MayRunOut (Ok p) = ⊥
+MayRunOut (Err e) = Unit {0}
+
 -- what was returned is what the words are read into, unless memory ran out
 abbrev pub IsParsed : Result Parsed CommandFault → Result Parsed CommandFault → Type 0
-IsParsed (Err fault.NoMem) p = Unit {0}
+IsParsed (Err fault.NoMem) p = MayRunOut p
 IsParsed r p = p ≡ r
 
 -- what a request can ask for: a command within the limits, which weighs what the words weigh, or a level that is there

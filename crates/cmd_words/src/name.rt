@@ -1,10 +1,11 @@
 //! The names of the commands. A name is found by its first byte, and then by length and bytes.
 
-ghost use Rattle.std.specs.Prelude.{◌≡◌, slice_get};
+ghost use Rattle.std.specs.Prelude.{◌≡◌, slice_get, OnErr};
 ghost use Rattle.cmd_words.specs.Words.{lower};
 ghost use Rattle.cmd_words.specs.Names.{named, find_name, starting, shorter, longer};
 ghost use Rattle.cmd_words.specs.Reading.{Tells};
 ghost use Rattle.cmd_words.specs.Table.{read};
+ghost use Rattle.cmd_words.specs.Parsed.{MayRunOut};
 
 use crate::case::is_word;
 use crate::fault::FaultKind;
@@ -35,9 +36,10 @@ pub enum Name {
 
 impl Name {
     /// What the words behind this name are read into. They weigh so much together with it.
-    #[tactic(auto, unfolding(crate::specs::Table::read))]
+    #[tactic(auto, unfolding(crate::specs::Table::read), using(crate::proofs::Memory::of_data))]
     pub fn read(self, alloc: Global, words: Blobs, weight: u64) -> Result<Parsed, FaultKind>
-        ensures { Tells result (read self weight words) }
+        ensures table { Tells result (read self weight words) }
+        ensures memory { OnErr result (MayRunOut (read self weight words)) }
     {
         match self {
             Name::NoKeys(name) => Ok(Parsed::Data(name.read(words, weight)?)),

@@ -24,7 +24,7 @@ fn weight(words: &[Blob]) -> u64
 /// moved into the command. Names and the words of options are read without regard to case.
 ///
 /// Memory is taken for a list of keys, for pairs, and for the name that a fault is told with; `NoMem` may come in place of
-/// any answer.
+/// a data command and of a fault. What is no data command takes none.
 pub fn parse(alloc: Global, mut words: Blobs) -> Result<Parsed, CommandFault>
     requires { IsRequest words }
     ensures table { IsParsed result (parsed_as words) }
