@@ -1,8 +1,8 @@
 pub mod Waiting
 pub mod Talks
-pub mod Asked
 pub mod Lines
 pub mod WithinLimits
+pub mod Quitting
 pub mod Serving
 pub mod Pulling
 pub mod Run

@@ -4,6 +4,10 @@ use Rattle.std.specs.Prelude.{codes, decimal}
 use Rattle.redis_model.specs.Render.{line_end}
 use Rattle.session.specs.Answer.{error_line}
 
+-- an error whose text is given in three pieces
+pub error_pieces : (before name after : List ℕ) → codes "-" ++ (before ++ (name ++ (after ++ (line_end ++ [])))) ≡ error_line (before ++ name ++ after)
+error_pieces before name after = simp append_assoc
+
 -- a file by its name, and a place
 pub damage_pieces : (name digits : List ℕ) (place : ℕ) → digits ≡ decimal place → codes "-DAMAGED " ++ (name ++ (codes " " ++ (digits ++ (line_end ++ [])))) ≡ error_line (codes "DAMAGED " ++ name ++ codes " " ++ decimal place)
 damage_pieces name digits place e = regrouped ∙ ap (λ (t : List ℕ). error_line (codes "DAMAGED " ++ name ++ codes " " ++ t)) e

@@ -1,37 +1,26 @@
 -- The bytes of an answer. The texts are this server's own where Redis has no such answer.
-use Rattle.std.specs.Prelude.{ℕ, ◌++◌, codes, decimal, Result, Ok, Err}
+use Rattle.std.specs.Prelude.{ℕ, Bool, true, false, ◌++◌, codes, decimal, Result, Ok, Err}
 use Rattle.kv_base.specs.Map.{Bytes}
 use Rattle.kv_base.specs.declared.name.FileName.{FileName}
 use Rattle.kv_base.specs.declared.name.FileName.TheVariants as file
 use Rattle.redis_model.specs.declared.desk.DeskFault.{DeskFault}
 use Rattle.redis_model.specs.declared.desk.DeskFault.TheVariants as desk
 use Rattle.redis_model.specs.declared.reply.Reply.{Reply}
+use Rattle.redis_model.specs.declared.reply.Reply.TheVariants as reply
 use Rattle.redis_model.specs.Render.{render, line_end}
 use Rattle.session.specs.declared.answer.Answer.{Answer}
 use Rattle.session.specs.declared.answer.Answer.TheVariants as answer
-use Rattle.session.specs.declared.parse.Name.{Name}
-use Rattle.session.specs.declared.parse.Name.TheVariants.{Ping, Get, Set}
-use Rattle.session.specs.declared.parse.Refusal.{Refusal}
-use Rattle.session.specs.declared.parse.Refusal.TheVariants.{Unknown, Arity, TooLong}
+use Rattle.cmd_words.specs.Texts.{fault_text}
+use Rattle.cmd_words.specs.declared.fault.CommandFault.{CommandFault}
+use Rattle.cmd_words.specs.declared.fault.CommandFault.TheVariants.{Unknown}
 
 -- an error of RESP2
 abbrev pub error_line : Bytes → Bytes
 error_line text = codes "-" ++ text ++ line_end
 
--- ---- words that ask for nothing
-
-abbrev pub name_text : Name → Bytes
-name_text Ping = codes "ping"
-name_text Get = codes "get"
-name_text Set = codes "set"
-
-abbrev pub refusal_text : Refusal → Bytes
-refusal_text Unknown = codes "ERR unknown command"
-refusal_text (Arity name) = codes "ERR wrong number of arguments for '" ++ name_text name ++ codes "' command"
-refusal_text TooLong = codes "ERR word too long"
-
-abbrev pub refusal_line : Refusal → Bytes
-refusal_line refusal = error_line (refusal_text refusal)
+-- words that are no command
+abbrev pub refusal_line : CommandFault → Bytes
+refusal_line fault = error_line (fault_text fault)
 
 -- ---- a desk without a reply
 
@@ -55,12 +44,20 @@ fault_line desk.Busy = error_line (codes "BUSY another job is open")
 
 -- ---- an answer
 
+-- what is not served yet is answered as what is none, and QUIT with OK
 unfoldable pub say : Answer → Bytes
 say (answer.Reply reply) = render reply
-say (answer.Refused refusal) = refusal_line refusal
+say (answer.Refused fault) = refusal_line fault
+say answer.Unserved = refusal_line Unknown
 say (answer.Fault fault) = fault_line fault
+say answer.Quit = render reply.Ok
 
 -- what a desk answered
 abbrev pub answered : Result Reply DeskFault → Answer
 answered (Ok reply) = answer.Reply reply
 answered (Err fault) = answer.Fault fault
+
+-- the answer to QUIT
+abbrev pub quits : Answer → Bool
+quits answer.Quit = true
+quits _ = false

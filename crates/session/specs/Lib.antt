@@ -1,5 +1,6 @@
-pub mod Words
 pub mod Answer
 pub mod Talk
+pub mod Quits
 pub mod Serving
 pub mod Session
+pub mod Input

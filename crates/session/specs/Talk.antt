@@ -1,19 +1,39 @@
 -- What the requests of one client are answered at a desk, one after the other.
-use Rattle.std.specs.Prelude.{◌≡◌, ℕ, List, [], ◌∷◌, Result, Ok, Err}
+use Rattle.std.specs.Prelude.{◌≡◌, ℕ, if◌then◌else◌, List, [], ◌∷◌, Result, Ok, Err}
 use Rattle.std.specs.List.{flat_map}
 use Rattle.kv_base.specs.Map.{Bytes}
 use Rattle.redis_model.specs.declared.command.Command.{Command}
 use Rattle.redis_model.specs.declared.desk.DeskFault.{DeskFault}
 use Rattle.redis_model.specs.declared.reply.Reply.{Reply}
 use Rattle.redis_model.specs.Apply.{due}
+use Rattle.redis_model.specs.Built.{built}
 use Rattle.redis_model.specs.DeskState.{DeskState}
 use Rattle.redis_model.specs.Desk.{TakesReading, TakesCall}
+use Rattle.redis_model.specs.Limits.{IsWithin}
+use Rattle.cmd_words.specs.Parsed.{parsed_as, IsParsed}
+use Rattle.cmd_words.specs.declared.fault.CommandFault.{CommandFault}
+use Rattle.cmd_words.specs.declared.parsed.Parsed.{Parsed}
+use Rattle.cmd_words.specs.declared.parsed.Parsed.TheVariants as parsed
 use Rattle.session.specs.declared.answer.Answer.{Answer}
-use Rattle.session.specs.declared.answer.Answer.TheVariants.{Refused}
-use Rattle.session.specs.declared.parse.Asked.{Asked}
-use Rattle.session.specs.declared.parse.Refusal.{Refusal}
+use Rattle.session.specs.declared.answer.Answer.TheVariants as answer
 use Rattle.session.specs.Answer.{say, answered}
-use Rattle.session.specs.Words.{asked, meant, weight_of}
+
+-- What is asked for: a command goes to the desk, and all else has an answer of the session's own.
+pub data Asked : Type 0 where
+  ToDesk : Command → Asked
+  Own : Answer → Asked
+
+-- what words ask for that were read so
+abbrev pub asked : Result Parsed CommandFault → Asked
+asked (Ok (parsed.Data c)) = if built c then ToDesk c else Own answer.Unserved
+asked (Ok parsed.Quit) = Own answer.Quit
+asked (Ok _) = Own answer.Unserved
+asked (Err fault) = Own (answer.Refused fault)
+
+-- a command is within the limits
+abbrev pub IsLawful : Parsed → Type 0
+IsLawful (parsed.Data c) = IsWithin c
+IsLawful _ = Unit {0}
 
 -- A command was put to the desk once, at a reading of its clock, and its answer is the desk's.
 pub record Asks {D : Type 0} (told : D → DeskState) (old new : D) (c : Command) (answer : Answer) : Type 0 where
@@ -25,21 +45,24 @@ pub record Asks {D : Type 0} (told : D → DeskState) (old new : D) (c : Command
   pub says : answer ≡ answered result
 
 module _ {D : Type 0} (told : D → DeskState) where
-  -- words that ask for nothing are refused, and the desk is left alone
-  abbrev pub TurnBy : D → D → ℕ → Result Asked Refusal → Answer → Type 0
-  TurnBy old new weight (Err refusal) answer = (answer ≡ Refused refusal) × (new ≡ old)
-  TurnBy old new weight (Ok a) answer = Asks told old new (meant a weight) answer
+  -- the desk is left alone by what it is not asked for
+  abbrev pub TurnBy : D → D → Asked → Answer → Type 0
+  TurnBy old new (ToDesk c) answer = Asks told old new c answer
+  TurnBy old new (Own said) answer = (answer ≡ said) × (new ≡ old)
 
-  -- one request was answered
-  abbrev pub Turn : D → D → List Bytes → Answer → Type 0
-  Turn old new words answer = TurnBy old new (weight_of words) (asked words) answer
+-- One request was answered, as what its words are read into; memory may have run out for that.
+pub record Turn {D : Type 0} (told : D → DeskState) (old new : D) (words : List Bytes) (answer : Answer) : Type 0 where
+  pub read : Result Parsed CommandFault
+  pub is : IsParsed read (parsed_as words)
+  pub turn : TurnBy told old new (asked read) answer
 
+module _ {D : Type 0} (told : D → DeskState) where
   -- these requests were answered, each once and in order
   abbrev pub Talks : D → D → List (List Bytes) → List Answer → Type 0
   Talks old new [] [] = new ≡ old
   Talks old new [] (answer ∷ answers) = ⊥
   Talks old new (words ∷ others) [] = ⊥
-  Talks old new (words ∷ others) (answer ∷ answers) = (mid : D) × Turn old mid words answer × Talks mid new others answers
+  Talks old new (words ∷ others) (answer ∷ answers) = (mid : D) × Turn told old mid words answer × Talks mid new others answers
 
 -- what is written for answers
 abbrev pub text : List Answer → Bytes

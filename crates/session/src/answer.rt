@@ -1,8 +1,8 @@
 ghost use Rattle.std.specs.Prelude.{◌≡◌, ◌++◌, codes, decimal};
 ghost use Rattle.kv_outside.specs.Writing.{Writes};
-ghost use Rattle.session.specs.Answer.{say, refusal_line, name_text, error_line, fault_line, damage_line};
+ghost use Rattle.session.specs.Answer.{say, quits, refusal_line, error_line, fault_line, damage_line};
 
-use crate::parse::{Name, Refusal};
+use cmd_words::CommandFault;
 use itoa::Buffer;
 use kv_base::{FileName, TableId};
 use kv_outside::{Failed, Sink, write_pieces};
@@ -14,37 +14,42 @@ use resp_wire::write_reply;
 pub enum Answer {
     /// The machine's reply.
     Reply(Reply),
-    /// The words ask for nothing.
-    Refused(Refusal),
+    /// The words are no command, or there was no memory to read them.
+    Refused(CommandFault),
+    /// The words ask for what is not served yet.
+    Unserved,
     /// The desk has no reply.
     Fault(DeskFault),
+    /// `QUIT`: the session is over.
+    Quit,
 }
 
-fn name_of(name: Name) -> &'static [u8]
-    ensures { result.now ≡ name_text name }
-{
-    match name {
-        Name::Ping => b"ping",
-        Name::Get => b"get",
-        Name::Set => b"set",
+impl Answer {
+    /// Whether the session is over with this answer.
+    pub fn is_quit(&self) -> bool
+        ensures { result ≡ quits self.now }
+    {
+        matches!(self, Answer::Quit)
     }
 }
 
-fn write_refusal<K: Sink>(refusal: Refusal, sink: &mut K) -> Result<(), Failed>
-    ensures { Writes (K.held sink.old) (K.held sink.new) (K.faults sink.old) (K.faults sink.new) (refusal_line refusal) result }
+fn write_refusal<K: Sink>(fault: &CommandFault, sink: &mut K) -> Result<(), Failed>
+    ensures { Writes (K.held sink.old) (K.held sink.new) (K.faults sink.old) (K.faults sink.new) (refusal_line fault.now) result }
 {
-    match refusal {
-        Refusal::Unknown => write_pieces(&[b"-ERR unknown command\r\n"], sink),
-        Refusal::Arity(name) => write_pieces(
-            &[
-                b"-ERR wrong number of arguments for '",
-                name_of(name),
-                b"' command\r\n",
-            ],
-            sink,
-        ),
-        Refusal::TooLong => write_pieces(&[b"-ERR word too long\r\n"], sink),
-    }
+    let text = fault.text();
+    write_error(text.before, text.name, text.after, sink)
+}
+
+/// Writes an error whose text is given in pieces.
+fn write_error<K: Sink>(
+    before: &[u8],
+    name: &[u8],
+    after: &[u8],
+    sink: &mut K,
+) -> Result<(), Failed>
+    ensures { Writes (K.held sink.old) (K.held sink.new) (K.faults sink.old) (K.faults sink.new) (error_line (before.now ++ name.now ++ after.now)) result }
+{
+    write_pieces(&[b"-", before, name, after, b"\r\n"], sink)
 }
 
 /// Writes the line `-DAMAGED FILE PLACE`: what was read of the file is off its grammar at that place. It takes no memory.
@@ -109,7 +114,9 @@ pub fn write_answer<K: Sink>(answer: &Answer, sink: &mut K) -> Result<(), Failed
 {
     match answer {
         Answer::Reply(reply) => write_reply(reply, sink),
-        Answer::Refused(refusal) => write_refusal(*refusal, sink),
+        Answer::Refused(fault) => write_refusal(fault, sink),
+        Answer::Unserved => write_refusal(&CommandFault::Unknown, sink),
         Answer::Fault(fault) => write_fault(*fault, sink),
+        Answer::Quit => write_reply(&Reply::Ok, sink),
     }
 }

@@ -1,5 +1,5 @@
-ghost use Rattle.std.specs.Prelude.{◌≡◌, ◌≤◌, [], length};
-ghost use Rattle.resp_wire.specs.Encoding.{IsWithinLimits};
+ghost use Rattle.std.specs.Prelude.{◌≡◌, ◌≤◌};
+ghost use Rattle.cmd_words.specs.Words.{IsRequest};
 ghost use Rattle.session.specs.Serving.{Answers, NextAs, Serves};
 ghost use Rattle.session.specs.declared.serve.Stopped.TheVariants.{WriteFault as write_fault};
 
@@ -8,16 +8,19 @@ use crate::turn::take_turn;
 use kv_base::Blobs;
 use kv_outside::{Failed, Outlet, Sink};
 use redis_model::Desk;
-use resp_wire::{NextFault, Reader};
+use resp_wire::{FaultKind, NextFault, Reader};
+use std::alloc::Global;
 
-/// Why the requests at hand were not all answered.
+/// Why no further request is answered.
 #[derive(Clone, Copy, Debug, PartialEq, Eq)]
 pub enum Stopped {
     /// There is no memory for the next request.
     NoMem,
     WriteFault,
-    /// The bytes are off the wire's grammar.
-    Protocol,
+    /// The bytes are off the wire's grammar, at a place from which on so many of those fed stand.
+    Wire(FaultKind, usize),
+    /// A QUIT was answered.
+    Quit,
 }
 
 impl From<Failed> for Stopped {
@@ -30,18 +33,23 @@ impl From<Failed> for Stopped {
 
 /// Answers a request, and writes the answer.
 fn answer<D: Desk, K: Sink>(
+    alloc: Global,
     words: Blobs,
     desk: &mut D,
     outlet: &mut Outlet,
     sink: &mut K,
-) -> Result<(), Failed>
-    requires { IsWithinLimits words }
+) -> Result<(), Stopped>
+    requires { IsRequest words }
     ensures said { Answers D.told desk.old desk.new (K.held sink.old) (K.held sink.new) outlet.old.bytes outlet.new.bytes (K.faults sink.old) (K.faults sink.new) words result }
     ensures later { K.faults sink.old ≤ K.faults sink.new }
     ensures loans { D.loans desk.new ≡ D.loans desk.old }
 {
-    let said = take_turn(words, desk);
-    send(&said, outlet, sink)
+    let said = take_turn(alloc, words, desk);
+    send(&said, outlet, sink)?;
+    if said.is_quit() {
+        return Err(Stopped::Quit);
+    }
+    Ok(())
 }
 
 /// The words of the next request, where one is whole.
@@ -51,12 +59,13 @@ fn next_words(reader: &mut Reader) -> Result<Option<Blobs>, Stopped>
     match reader.next() {
         Ok(words) => Ok(words),
         Err(NextFault::NoMem) => Err(Stopped::NoMem),
-        Err(NextFault::Wire(_, _)) => Err(Stopped::Protocol),
+        Err(NextFault::Wire(kind, left)) => Err(Stopped::Wire(kind, left)),
     }
 }
 
-/// Answers the requests that are whole, in order.
+/// Answers the requests that are whole, in order, up to a QUIT.
 pub fn serve<D: Desk, K: Sink>(
+    alloc: Global,
     reader: &mut Reader,
     desk: &mut D,
     outlet: &mut Outlet,
@@ -67,7 +76,7 @@ pub fn serve<D: Desk, K: Sink>(
     ensures loans { D.loans desk.new ≡ D.loans desk.old }
 {
     while let Some(words) = next_words(reader)? {
-        answer(words, desk, outlet, sink)?;
+        answer(alloc, words, desk, outlet, sink)?;
     }
     Ok(())
 }

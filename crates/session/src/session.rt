@@ -1,8 +1,8 @@
 ghost use Rattle.std.specs.Prelude.{◌≡◌, ◌≤◌, ◌<◌, [], length, OnOk};
-ghost use Rattle.resp_wire.specs.Reading.{IsUnfinished};
-ghost use Rattle.session.specs.Serving.{Pulls, Serves};
-ghost use Rattle.session.specs.Session.{Session, IsCaused, EndsReading, is_write_fault, outcome_by};
+ghost use Rattle.session.specs.Serving.{Pulls, Serves, is_write_fault};
+ghost use Rattle.session.specs.Session.{Session, IsCaused};
 
+use crate::ending::{finish, stop};
 use crate::serve::{Stopped, serve};
 use kv_outside::{Outlet, Sink, Source};
 use redis_model::Desk;
@@ -12,7 +12,7 @@ use std::alloc::Global;
 /// How a session ended.
 #[derive(Clone, Copy, Debug, PartialEq, Eq)]
 pub enum Outcome {
-    /// The input was read to its end, between requests.
+    /// The input was read to its end, between requests, or the client quit.
     Closed,
     /// There was no memory for a request.
     NoMem,
@@ -20,7 +20,7 @@ pub enum Outcome {
     ReadFault,
     /// The sink failed.
     WriteFault,
-    /// The input is off the wire's grammar, or ends inside a request.
+    /// The input is off the wire's grammar, or ends inside a request, and the client was told so.
     Protocol,
     /// As many bytes as are taken from one source were taken.
     Spent,
@@ -58,6 +58,7 @@ fn has_no_sink(served: &Result<(), Stopped>) -> bool
 
 /// Answers the requests that are whole, and passes the answers on.
 fn attend<D: Desk, K: Sink>(
+    alloc: Global,
     reader: &mut Reader,
     desk: &mut D,
     outlet: &mut Outlet,
@@ -68,7 +69,7 @@ fn attend<D: Desk, K: Sink>(
     ensures later { K.faults sink.old ≤ K.faults sink.new }
     ensures loans { D.loans desk.new ≡ D.loans desk.old }
 {
-    let served = serve(reader, desk, outlet, sink);
+    let served = serve(alloc, reader, desk, outlet, sink);
     if has_no_sink(&served) {
         return served;
     }
@@ -76,32 +77,15 @@ fn attend<D: Desk, K: Sink>(
     served
 }
 
-fn outcome_of(stopped: Stopped) -> Outcome
-    ensures { result ≡ outcome_by stopped }
-{
-    match stopped {
-        Stopped::NoMem => Outcome::NoMem,
-        Stopped::WriteFault => Outcome::WriteFault,
-        Stopped::Protocol => Outcome::Protocol,
-    }
-}
-
-/// How a session ends whose input has ended.
-fn finished(reader: &Reader) -> Outcome
-    requires { IsUnfinished reader.now }
-    ensures { EndsReading reader.now result }
-{
-    match reader.finish() {
-        None => Outcome::Closed,
-        Some(_) => Outcome::Protocol,
-    }
-}
-
-/// Serves one client: reads requests from the source to its end, puts what they ask for to the desk, and writes one
-/// answer for each to the sink, in order. Answers to requests that came in together leave together.
+/// Serves one client: reads requests from the source, puts what they ask for to the desk, and writes one answer for each
+/// to the sink, in order. Answers to requests that came in together leave together. A request whose words are no command,
+/// or ask for what is not served yet, is answered with an error, and the session goes on; so it is after a fault of the
+/// desk, and where there is no memory to read the words.
 ///
-/// At most 2^40 bytes are taken. The session ends before the end of the input where the source or the sink fails, where
-/// there is no memory for a request, and where the input is off the wire's grammar.
+/// The session is over behind the answer to `QUIT`, and else at the end of the input. At most 2^40 bytes are taken. It
+/// ends earlier where the source or the sink fails, where there is no memory for a request, and where the input is off
+/// the wire's grammar: then the client is told `-ERR Protocol error: KIND at PLACE`, behind the answers to all requests
+/// before, and so it is where the input ends inside a request.
 pub fn serve_session<S: Source, K: Sink, D: Desk>(
     alloc: Global,
     desk: &mut D,
@@ -124,11 +108,11 @@ pub fn serve_session<S: Source, K: Sink, D: Desk>(
             Err(outcome) => return outcome,
         };
         if count == 0 {
-            return finished(&reader);
+            return finish(alloc, &reader, taken, sink);
         }
         taken += count as u64;
-        if let Err(stopped) = attend(&mut reader, desk, &mut outlet, sink) {
-            return outcome_of(stopped);
+        if let Err(stopped) = attend(alloc, &mut reader, desk, &mut outlet, sink) {
+            return stop(alloc, stopped, taken, sink);
         }
     }
     Outcome::Spent

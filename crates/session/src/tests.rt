@@ -1,14 +1,17 @@
 //! Whole sessions at a small desk, and the lines of all errors.
 
+mod cuts;
 mod desk;
 
 use crate::answer::{Answer, write_answer};
-use crate::{Name, Outcome, Refusal, serve_session};
+use crate::{Outcome, serve_session};
+use cmd_words::CommandFault;
 use desk::OneValue;
 use kv_base::{Blob, FileName, TableId};
 use kv_fakes::{Calls, MemSink, MemSource, Sizes};
 use redis_model::DeskFault;
 use std::alloc::Global;
+use std::process::Abort;
 use std::test::Fail;
 
 /// An input in pieces of these sizes, which reads and writes fail, and what comes of it.
@@ -32,6 +35,7 @@ const PLAIN: Case<'static> = Case {
     output: b"",
 };
 
+/// Requests are answered in order, and how a session ends.
 const CASES: [Case<'static>; 11] = [
     PLAIN,
     Case {
@@ -47,8 +51,8 @@ const CASES: [Case<'static>; 11] = [
         ..PLAIN
     },
     Case {
-        input: b"pong\nPING a\nget\nSET k\n",
-        output: b"-ERR unknown command\r\n-ERR wrong number of arguments for 'ping' command\r\n-ERR wrong number of arguments for 'get' command\r\n-ERR wrong number of arguments for 'set' command\r\n",
+        input: b"PING hello\nECHO a\n*2\r\n$4\r\necho\r\n$0\r\n\r\nSELECT 0\n",
+        output: b"$5\r\nhello\r\n$1\r\na\r\n$0\r\n\r\n+OK\r\n",
         ..PLAIN
     },
     Case {
@@ -57,15 +61,8 @@ const CASES: [Case<'static>; 11] = [
         ..PLAIN
     },
     Case {
-        input: b"PING\n*1\r\n$4\r\nPIN",
-        outcome: Outcome::Protocol,
-        output: b"+PONG\r\n",
-        ..PLAIN
-    },
-    Case {
-        input: b"PING\n*1\r\n+PING\r\nPING\n",
-        outcome: Outcome::Protocol,
-        output: b"+PONG\r\n",
+        input: b"PING\nquit\nPING\n*x",
+        output: b"+PONG\r\n+OK\r\n",
         ..PLAIN
     },
     Case {
@@ -77,6 +74,12 @@ const CASES: [Case<'static>; 11] = [
     },
     Case {
         input: b"PING\n",
+        failing_writes: &[0],
+        outcome: Outcome::WriteFault,
+        ..PLAIN
+    },
+    Case {
+        input: b"PING\nQUIT\nPING\n",
         failing_writes: &[0],
         outcome: Outcome::WriteFault,
         ..PLAIN
@@ -96,38 +99,121 @@ const CASES: [Case<'static>; 11] = [
     },
 ];
 
-#[test]
-fn requests_are_answered_in_order_until_the_session_ends(rt: HostRuntime) -> Result<(), Fail> {
-    let alloc = rt.alloc();
-    for case in CASES {
-        let mut source = MemSource::new(
-            Blob::copy(alloc, case.input)?,
-            Sizes::from_slice(alloc, case.sizes)?,
-            Calls::from_slice(alloc, case.failing_reads)?,
-        );
-        let mut sink = MemSink::new(alloc, Calls::from_slice(alloc, case.failing_writes)?);
-        let mut desk = OneValue::new(alloc);
-        let outcome = serve_session(alloc, &mut desk, &mut source, &mut sink);
+/// Inputs off the wire's grammar.
+const BROKEN: [Case<'static>; 5] = [
+    Case {
+        input: b"*2\r\n$3\r\nGET\r\n$5\r\nab",
+        outcome: Outcome::Protocol,
+        output: b"-ERR Protocol error: cut at 0\r\n",
+        ..PLAIN
+    },
+    Case {
+        input: b"*1\r\n$04\r\nPING\r\n",
+        outcome: Outcome::Protocol,
+        output: b"-ERR Protocol error: bad length at 4\r\n",
+        ..PLAIN
+    },
+    Case {
+        input: b"PING\nGET\n*1\r\n$4\r\nPIN",
+        failing_writes: &[2],
+        outcome: Outcome::Protocol,
+        output: b"+PONG\r\n-ERR wrong number of arguments for 'get' command\r\n-ERR Protocol error: cut at 9\r\n",
+        ..PLAIN
+    },
+    Case {
+        input: b"PING\n*1\r\n+PING\r\nPING\n",
+        failing_writes: &[2],
+        outcome: Outcome::Protocol,
+        output: b"+PONG\r\n-ERR Protocol error: bad mark at 9\r\n",
+        ..PLAIN
+    },
+    Case {
+        input: b"PING\n*1\r\n+PING\r\nPING\n",
+        outcome: Outcome::WriteFault,
+        output: b"+PONG\r\n",
+        ..PLAIN
+    },
+];
+
+/// What is no command, and what is not served yet.
+const REFUSED: [Case<'static>; 2] = [
+    Case {
+        input: b"pong\nPING a b\nget\nSET k\nset k v w\nincrby k a\nzadd k a m\nSETEX k 0 v\nselect 1\nselect x\nPING\n",
+        output: b"-ERR unknown command\r\n\
+            -ERR wrong number of arguments for 'ping' command\r\n\
+            -ERR wrong number of arguments for 'get' command\r\n\
+            -ERR wrong number of arguments for 'set' command\r\n\
+            -ERR syntax error\r\n\
+            -ERR value is not an integer or out of range\r\n\
+            -ERR value is not a whole score\r\n\
+            -ERR invalid expire time in 'setex' command\r\n\
+            -ERR DB index is out of range\r\n\
+            -ERR value is not an integer or out of range\r\n\
+            +PONG\r\n",
+        ..PLAIN
+    },
+    Case {
+        input: b"HSET k f v\nMULTI\nEXEC\nDISCARD\nKVR PIN\nkvr levels\nLLEN k\nPING\n",
+        output: b"-ERR unknown command\r\n\
+            -ERR unknown command\r\n\
+            -ERR unknown command\r\n\
+            -ERR unknown command\r\n\
+            -ERR unknown command\r\n\
+            -ERR unknown command\r\n\
+            -ERR unknown command\r\n\
+            +PONG\r\n",
+        ..PLAIN
+    },
+];
+
+/// How a session of the case ends, and what it writes.
+fn session_of(alloc: Global, case: &Case<'_>) -> Result<(Outcome, Vec<u8>), Fail> {
+    let mut source = MemSource::new(
+        Blob::copy(alloc, case.input)?,
+        Sizes::from_slice(alloc, case.sizes)?,
+        Calls::from_slice(alloc, case.failing_reads)?,
+    );
+    let mut sink = MemSink::new(alloc, Calls::from_slice(alloc, case.failing_writes)?);
+    let mut desk = OneValue::new(alloc);
+    let outcome = serve_session(alloc, &mut desk, &mut source, &mut sink);
+    Ok((outcome, Vec::from_slice(alloc, sink.bytes())?))
+}
+
+/// The session of each case ends as the case says.
+fn all_end_so(rt: &impl Abort, alloc: Global, cases: &[Case<'_>]) -> Result<(), Fail> {
+    for case in cases {
+        let (outcome, output) = session_of(alloc, case)?;
         assert_eq!(rt; outcome, case.outcome, "{:?}", case.input);
-        assert_eq!(rt; sink.bytes(), case.output, "{:?}", case.input);
+        assert_eq!(rt; output.as_slice(), case.output, "{:?}", case.input);
     }
     Ok(())
+}
+
+#[test]
+fn requests_are_answered_in_order_until_the_session_ends(rt: HostRuntime) -> Result<(), Fail> {
+    all_end_so(&rt, rt.alloc(), &CASES)
+}
+
+#[test]
+fn a_fault_of_the_wire_is_told_at_its_place(rt: HostRuntime) -> Result<(), Fail> {
+    all_end_so(&rt, rt.alloc(), &BROKEN)
+}
+
+#[test]
+fn a_session_goes_on_behind_a_refusal(rt: HostRuntime) -> Result<(), Fail> {
+    all_end_so(&rt, rt.alloc(), &REFUSED)
 }
 
 const TABLE: FileName = FileName::Table(TableId { run: 7, part: 2 });
 
 #[test]
 fn errors_have_their_lines(rt: HostRuntime) -> Result<(), Fail> {
-    let cases: [(Answer, &str); 11] = [
+    let cases: [(Answer, &str); 10] = [
         (
-            Answer::Refused(Refusal::Unknown),
-            "-ERR unknown command\r\n",
+            Answer::Refused(CommandFault::TooLong),
+            "-ERR word too long\r\n",
         ),
-        (
-            Answer::Refused(Refusal::Arity(Name::Get)),
-            "-ERR wrong number of arguments for 'get' command\r\n",
-        ),
-        (Answer::Refused(Refusal::TooLong), "-ERR word too long\r\n"),
+        (Answer::Refused(CommandFault::NoMem), "-NOMEM no memory\r\n"),
         (
             Answer::Fault(DeskFault::IoError),
             "-IOERR a file call failed\r\n",

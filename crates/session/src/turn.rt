@@ -1,37 +1,14 @@
-ghost use Rattle.std.specs.Prelude.{◌≡◌, ◌≤◌, ◌^◌, IsTrue};
+ghost use Rattle.std.specs.Prelude.{◌≡◌, IsTrue, Ok};
 ghost use Rattle.redis_model.specs.Built.{built};
-ghost use Rattle.redis_model.specs.Limits.{IsWithin, HasDueTime, IsDue};
-ghost use Rattle.redis_model.specs.Apply.{due};
-ghost use Rattle.resp_wire.specs.Encoding.{IsWithinLimits};
-ghost use Rattle.session.specs.Talk.{Asks, Turn};
-ghost use Rattle.session.specs.Words.{meant, weight_of};
+ghost use Rattle.redis_model.specs.Limits.{IsWithin};
+ghost use Rattle.cmd_words.specs.Words.{IsRequest};
+ghost use Rattle.session.specs.Talk.{Asks, Turn, TurnBy, IsLawful, asked};
 
 use crate::answer::Answer;
-use crate::parse::{Asked, parse};
-use kv_base::{Blob, Blobs};
-use redis_model::{Command, Desk, Expiry, When};
-
-/// How much the words of a request weigh: sixteen for each, and its bytes.
-fn weigh(words: &[Blob]) -> u64
-    requires { IsWithinLimits words.now }
-    ensures { result ≡ weight_of words.now }
-{
-    words
-        .iter()
-        .map(|word| word.bytes().len() as u64 + 16)
-        .sum()
-}
-
-/// The command that is asked for, whose words weigh so much.
-fn command_of(asked: Asked, weight: u64) -> Command
-    ensures { result ≡ meant asked weight }
-{
-    match asked {
-        Asked::Ping => Command::Ping(None, weight),
-        Asked::Get(key) => Command::Get(key, weight),
-        Asked::Set(key, value) => Command::Set(key, value, When::Any, Expiry::None, weight),
-    }
-}
+use cmd_words::{Parsed, parse};
+use kv_base::Blobs;
+use redis_model::{Command, Desk};
+use std::alloc::Global;
 
 /// Puts a command to the desk, at the next reading of its clock.
 #[tactic(auto, using(redis_model::specs::Built::built_due))]
@@ -49,15 +26,45 @@ fn ask<D: Desk>(desk: &mut D, mut command: Command) -> Answer
     }
 }
 
+/// Puts a command to the desk, where it is served by now.
+fn put<D: Desk>(desk: &mut D, command: Command) -> Answer
+    requires { IsWithin command }
+    ensures turn { TurnBy D.told desk.old desk.new (asked (Ok (Parsed.Data command))) result }
+    ensures loans { D.loans desk.new ≡ D.loans desk.old }
+{
+    if !command.is_built() {
+        drop(command);
+        return Answer::Unserved;
+    }
+    ask(desk, command)
+}
+
+/// Answers what words were read into.
+fn answer<D: Desk>(desk: &mut D, parsed: Parsed) -> Answer
+    requires { IsLawful parsed }
+    ensures turn { TurnBy D.told desk.old desk.new (asked (Ok parsed)) result }
+    ensures loans { D.loans desk.new ≡ D.loans desk.old }
+{
+    match parsed {
+        Parsed::Data(command) => put(desk, command),
+        Parsed::Quit => Answer::Quit,
+        Parsed::Multi
+        | Parsed::Exec
+        | Parsed::Discard
+        | Parsed::Pin
+        | Parsed::Unpin
+        | Parsed::Upkeep(_) => Answer::Unserved,
+    }
+}
+
 /// Answers a request.
-pub fn take_turn<D: Desk>(words: Blobs, desk: &mut D) -> Answer
-    requires { IsWithinLimits words }
+pub fn take_turn<D: Desk>(alloc: Global, words: Blobs, desk: &mut D) -> Answer
+    requires { IsRequest words }
     ensures turn { Turn D.told desk.old desk.new words result }
     ensures loans { D.loans desk.new ≡ D.loans desk.old }
 {
-    let weight = weigh(words.as_slice());
-    match parse(words) {
-        Ok(asked) => ask(desk, command_of(asked, weight)),
-        Err(refusal) => Answer::Refused(refusal),
+    match parse(alloc, words) {
+        Ok(parsed) => answer(desk, parsed),
+        Err(fault) => Answer::Refused(fault),
     }
 }

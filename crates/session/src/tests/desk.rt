@@ -37,6 +37,7 @@ impl Desk for OneValue {
       off = λ file place. Unit {0};
       sequence = 0;
       body = 0;
+      planned = λ now c. Unit {0};
     } };
 
     ghost loans = { λ d. [] };
@@ -64,6 +65,8 @@ impl Desk for OneValue {
                 }
                 Err(_) => Err(DeskFault::NoMem),
             },
+            Command::Ping(Some(word), _) | Command::Echo(word, _) => copied(self.alloc, word),
+            Command::Select(_, _) => Ok(Reply::Ok),
             _ => Ok(Reply::Pong),
         };
         drop(command);

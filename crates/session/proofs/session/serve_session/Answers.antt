@@ -1,6 +1,6 @@
 use Rattle.std.proofs.Common.{◌∙◌, [], refl, arith}
 use Rattle.session.proofs.Pulling.{pull_caused, still_unfinished, pulled_few, pulled_on}
-use Rattle.session.proofs.Run.{run_begins, run_closes, run_on, run_stops_at, run_spent, pull_stops, attend_caused}
+use Rattle.session.proofs.Run.{run_begins, run_closes, run_on, run_stops_at, run_spent, pull_stops, stop_caused, finish_caused}
 use Rattle.kv_outside.specs.Taken.{nothing_taken}
 use Rattle.session.proofs.session.serve_session.Goals as goal
 
@@ -22,23 +22,30 @@ pub returns-in-Err-clause-caused : goal.returns-in-Err-clause-caused
 returns-in-Err-clause-caused g c =
     pull_caused (g.S.Source.left c.loop-taken.source) (g.S.Source.left c.pull.new.source) c.loop-taken.reader c.pull.new.reader _ (g.S.Source.faults c.args.source.now) (g.S.Source.faults c.loop-taken.source) (g.S.Source.faults c.pull.new.source) (g.K.Sink.faults c.args.sink.now) (g.K.Sink.faults c.loop-taken.sink) _ _ c.in-Err.outcome c.in-Err.ensures.pulled c.loop-taken.invariant.source
 
-pub finished-requires : goal.finished-requires
-finished-requires g c = still_unfinished (g.S.Source.left c.loop-taken.source) (g.S.Source.left c.pull.new.source) _ _ _ _ c.loop-taken.reader c.pull.new.reader _ c.in-Ok.count c.in-Ok.ensures.pulled c.if-count-eq0.true c.loop-taken.invariant.run.unfinished
+pub finish-requires : goal.finish-requires
+finish-requires g c = still_unfinished (g.S.Source.left c.loop-taken.source) (g.S.Source.left c.pull.new.source) _ _ _ _ c.loop-taken.reader c.pull.new.reader _ c.in-Ok.count c.in-Ok.ensures.pulled c.if-count-eq0.true c.loop-taken.invariant.run.unfinished
 
 pub returns-then-count-eq0-clause-session : goal.returns-then-count-eq0-clause-session
 returns-then-count-eq0-clause-session g c =
-    run_closes g.D.Desk.told c.args.desk.now c.loop-taken.desk (g.S.Source.left c.args.source.now) (g.S.Source.left c.loop-taken.source) (g.S.Source.left c.pull.new.source) (g.K.Sink.held c.args.sink.now) (g.K.Sink.held c.loop-taken.sink) c.loop-taken.outlet.bytes c.loop-taken.reader c.pull.new.reader c.loop-taken.taken c.in-Ok.count _ _ _ (g.S.Source.ended c.args.source.now) _ _ c.finished.result c.loop-taken.invariant.run c.in-Ok.ensures.pulled c.if-count-eq0.true c.finished.ensures
+    run_closes g.D.Desk.told c.args.desk.now c.loop-taken.desk (g.S.Source.left c.args.source.now) (g.S.Source.left c.loop-taken.source) (g.S.Source.left c.pull.new.source) (g.K.Sink.held c.args.sink.now) (g.K.Sink.held c.loop-taken.sink) (g.K.Sink.held c.finish.new.sink)
+    c.loop-taken.outlet.bytes c.loop-taken.reader c.pull.new.reader c.loop-taken.taken c.in-Ok.count _ _ _ (g.K.Sink.faults c.loop-taken.sink) (g.K.Sink.faults c.finish.new.sink) (g.S.Source.ended c.args.source.now) _ _ c.finish.result c.loop-taken.invariant.run c.in-Ok.ensures.pulled c.if-count-eq0.true c.finish.ensures
+
+pub returns-then-count-eq0-clause-caused : goal.returns-then-count-eq0-clause-caused
+returns-then-count-eq0-clause-caused g c =
+    finish_caused (g.K.Sink.held c.loop-taken.sink) (g.K.Sink.held c.finish.new.sink) (g.K.Sink.faults c.args.sink.now) (g.K.Sink.faults c.loop-taken.sink) (g.K.Sink.faults c.finish.new.sink) c.loop-taken.taken (g.S.Source.faults c.args.source.now) (g.S.Source.faults c.pull.new.source) _ c.finish.result c.finish.ensures c.loop-taken.invariant.sink
 
 pub overflow_add-taken : goal.overflow_add-taken
 overflow_add-taken g c = omega (arith, c.loop-taken.invariant.within, c.loop-taken-test.true, c.min-room.ensures, c.split_at_mut-piece.ensures.front_len, pulled_few (g.S.Source.left c.loop-taken.source) (g.S.Source.left c.pull.new.source) _ _ _ _ c.loop-taken.reader c.pull.new.reader _ c.in-Ok.count c.in-Ok.ensures.pulled)
 
 pub returns-in-Err-attend-clause-session : goal.returns-in-Err-attend-clause-session
 returns-in-Err-attend-clause-session g c =
-    rw c.outcome_of.ensures (run_stops_at g.D.Desk.told c.args.desk.now c.loop-taken.desk c.attend.new.desk (g.S.Source.left c.args.source.now) (g.S.Source.left c.loop-taken.source) (g.S.Source.left c.pull.new.source) (g.K.Sink.held c.args.sink.now) (g.K.Sink.held c.loop-taken.sink) (g.K.Sink.held c.attend.new.sink) c.loop-taken.outlet.bytes c.loop-taken.reader c.pull.new.reader c.attend.new.reader c.loop-taken.taken c.in-Ok.count _ _ _ _ _ (g.S.Source.ended c.args.source.now) _ _ c.in-Err-attend.stopped c.loop-taken.invariant.run c.in-Ok.ensures.pulled c.in-Err-attend.ensures.served)
+    run_stops_at g.D.Desk.told c.args.desk.now c.loop-taken.desk c.attend.new.desk (g.S.Source.left c.args.source.now) (g.S.Source.left c.loop-taken.source) (g.S.Source.left c.pull.new.source) (g.K.Sink.held c.args.sink.now) (g.K.Sink.held c.loop-taken.sink) (g.K.Sink.held c.attend.new.sink) (g.K.Sink.held c.stop.new.sink)
+    c.loop-taken.outlet.bytes c.loop-taken.reader c.pull.new.reader c.attend.new.reader c.loop-taken.taken c.in-Ok.count _ _ _ _ (g.K.Sink.faults c.attend.new.sink) (g.K.Sink.faults c.stop.new.sink) (g.S.Source.ended c.args.source.now) _ _ c.in-Err-attend.stopped c.stop.result c.loop-taken.invariant.run c.in-Ok.ensures.pulled c.in-Err-attend.ensures.served c.stop.ensures
 
 pub returns-in-Err-attend-clause-caused : goal.returns-in-Err-attend-clause-caused
 returns-in-Err-attend-clause-caused g c =
-    rw c.outcome_of.ensures (attend_caused g.D.Desk.told c.loop-taken.desk c.attend.new.desk (g.K.Sink.held c.loop-taken.sink) (g.K.Sink.held c.attend.new.sink) c.loop-taken.outlet.bytes c.pull.new.reader c.attend.new.reader (g.K.Sink.faults c.args.sink.now) (g.K.Sink.faults c.loop-taken.sink) (g.K.Sink.faults c.attend.new.sink) (g.S.Source.faults c.args.source.now) (g.S.Source.faults c.pull.new.source) c.in-Err-attend.stopped c.in-Err-attend.ensures.served c.loop-taken.invariant.sink)
+    stop_caused g.D.Desk.told c.loop-taken.desk c.attend.new.desk (g.K.Sink.held c.loop-taken.sink) (g.K.Sink.held c.attend.new.sink) (g.K.Sink.held c.stop.new.sink) c.loop-taken.outlet.bytes c.pull.new.reader c.attend.new.reader
+    (g.K.Sink.faults c.args.sink.now) (g.K.Sink.faults c.loop-taken.sink) (g.K.Sink.faults c.attend.new.sink) (g.K.Sink.faults c.stop.new.sink) _ (g.S.Source.faults c.args.source.now) (g.S.Source.faults c.pull.new.source) c.in-Err-attend.stopped c.stop.result c.in-Err-attend.ensures.served c.stop.ensures c.loop-taken.invariant.sink c.in-Err-attend.ensures.later
 
 pub loop-taken-preserved : goal.loop-taken-preserved
 loop-taken-preserved g c =
