@@ -1,10 +1,7 @@
-pub mod Appending
-pub mod Entries
-pub mod Output
 pub mod Planning
-pub mod Replaying
-pub mod Running
-pub mod Serving
-pub mod Staying
 pub mod Talk
 pub mod ToldDesk
+pub mod Reopened
+pub mod Output
+pub mod Running
+pub mod Serving

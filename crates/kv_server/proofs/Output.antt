@@ -1,20 +1,23 @@
 -- What a session says of an input that is told.
-use Rattle.std.proofs.Common.{◌≡◌, ◌≤◌, ◌+◌, ℕ, List, [], ◌∷◌, ◌++◌, length, Bool, Option, Some, None, refl, sym, ap, subst, ◌∙◌, append_assoc, arith, ◌⊎◌, inl, inr, ◌^◌}
-use Rattle.std.proofs.lemmas.List.{append-nil, length-append}
+use Rattle.std.proofs.Common.{◌≡◌, ◌≤◌, ℕ, List, [], ◌∷◌, ◌++◌, length, Bool, true, false, Option, Some, None, refl, sym, ap, subst, ◌∙◌, arith, ◌⊎◌, ⊎_elim, inl, inr}
+use Rattle.std.specs.Io.KnownBytes.{Appends}
 use Rattle.kv_base.specs.Map.{Bytes}
 use Rattle.kv_outside.specs.Readings.{next_reading, TakesAll}
 use Rattle.kv_outside.specs.Causes.{Rose}
+use Rattle.redis_model.specs.declared.history.Place.{Place}
 use Rattle.redis_model.specs.DeskState.{DeskState}
-use Rattle.redis_model.specs.Desk.{state_at}
 use Rattle.redis_model.specs.Machine.{State}
-use Rattle.resp_wire.specs.Grammar.{End, Whole, Open, Fault, requests}
-use Rattle.resp_wire.specs.Holding.{requests_go_on, faults_stay}
+use Rattle.resp_wire.specs.Grammar.{Whole, requests}
+use Rattle.session.specs.declared.answer.Answer.{Answer}
 use Rattle.session.specs.declared.session.Outcome.{Outcome}
 use Rattle.session.specs.declared.session.Outcome.TheVariants as outcome
-use Rattle.session.specs.Session.{Session, IsBroken, IsCaused}
-use Rattle.kv_server.specs.Script.{status, first_readings, AreTold, Ran, OutputOf, IsAnswered, HasFront, EndsBadly, IsWhole}
-use Rattle.redis_model.specs.declared.history.Place.{Place}
-use Rattle.kv_server.proofs.Talk.{IsAlone, talk_is, talks_later}
+use Rattle.session.specs.Input.{IsOff, ends_input}
+use Rattle.session.specs.Quits.{has_quit, has_quit-none}
+use Rattle.session.specs.Session.{Session, IsCaused, end_line}
+use Rattle.session.specs.Talk.{Talks, text}
+use Rattle.kv_server.specs.Dialog.{StoreState}
+use Rattle.kv_server.specs.Script.{status, first_readings, AreTold, Ran, Talked, OutputOf, IsAnswered, IsRejected, HasFront, IsComplete, EndsBadly, IsWhole}
+use Rattle.kv_server.proofs.Talk.{IsForOne, IsMarked, store_at, talk_is, talks_later}
 
 abbrev pub Known : Type 0
 Known = Option (List ℕ)
@@ -28,22 +31,23 @@ are_told (Some told) b (now ∷ nows) (Some later, p, q) =
     let rest : nows ≡ first_readings (length nows) later = are_told (Some later) b nows q in
     ap (λ (x : ℕ). x ∷ nows) p.0 ∙ ap (λ (xs : List ℕ). next_reading told ∷ xs) (rest ∙ ap (first_readings (length nows)) p.1)
 
--- A session at a desk whose caller is alone, from a state that the desk stood for: it stands for what comes of it.
-pub record Went {D : Type 0} (told : D → DeskState) (o : Outcome) (old new : D) (l l' h i : Known) (b b' : Bool) (first : State) : Type 0 where
+-- A session at a desk whose caller is alone, from a history that the desk stood for: it stands for what comes of it.
+pub record WentOn {D : Type 0} (told : D → DeskState) (sequence : D → ℕ) (old new : D) (served : List (List Bytes)) (answers : List Answer) (first : State) (before : List Place) : Type 0 where
   pub seen : List Place
   pub stands : (told new).stands first seen
-  pub ran : Ran o first (state_at first seen) (told old).readings (told new).readings l l' h i b b'
+  pub talked : Talked (store_at told sequence old first before) (store_at told sequence new first seen) served answers (told old).readings (told new).readings
 
-pub went_at : {D : Type 0} (told : D → DeskState) (alone : IsAlone told) (o : Outcome) (old new : D) (l l' h i : Known) (b b' : Bool) (first : State) → (told old).stands first [] → Session told o old new l l' h i b b'
-    → Went told o old new l l' h i b b' first
+pub went_at : {D : Type 0} (told : D → DeskState) (sequence : D → ℕ) (alone : IsForOne told sequence) (old new : D) (served : List (List Bytes)) (answers : List Answer) (first : State) (before : List Place)
+    → IsMarked before → (told old).stands first before → Talks told old new served answers → WentOn told sequence old new served answers first before
+went_at told sequence alone old new served answers first before marked stood talk =
+    let said = talk_is told sequence alone old new first before served answers marked stood talk in
+    record { seen = said.seen; stands = said.stands; talked = record { nows = said.nows; readings = said.readings; dialog = said.dialog } }
+
+-- what a session took, answered and wrote
+pub ran_at : {D : Type 0} (told : D → DeskState) (o : Outcome) (old new : D) (l l' h i : Known) (b b' : Bool) → Session told o old new l l' h i b b'
+    → (r : Ran o l l' h i b b') × Talks told old new r.served r.answers
 unfolding Session
-went_at told alone o old new l l' h i b b' first stood p =
-    let said = talk_is told alone old new first [] p.served p.answers stood p.talk in
-    record {
-      seen = said.seen;
-      stands = said.stands;
-      ran = record { taken = p.taken; served = p.served; nows = said.nows; answers = p.answers; took = p.took; ends = p.ends; readings = said.readings; dialog = said.dialog; wrote = p.wrote };
-    }
+ran_at told o old new l l' h i b b' p = (record { taken = p.taken; served = p.served; answers = p.answers; line = p.line; took = p.took; ends = p.ends; wrote = p.wrote }, p.talk)
 
 -- the count of faults does not fall
 pub later_at : {D : Type 0} (told : D → DeskState) (o : Outcome) (old new : D) (l l' h i : Known) (b b' : Bool) → Session told o old new l l' h i b b' → (told old).faults ≤ (told new).faults
@@ -52,83 +56,79 @@ later_at told o old new l l' h i b b' p = talks_later told old new p.served p.an
 
 -- ---- by the status
 
--- the input was read to its end
-pub closed_output : (o : Outcome) (n : ℕ) (s t : State) (a b l l' h i : Known) (e e' : Bool) → n ≡ status o → Ran o s t a b l l' h i e e' → n ≡ 0 → IsAnswered s t l a h i
-closed_output outcome.Closed n s t a b None l' h i e e' is p none = tt
-closed_output outcome.Closed n s t a b (Some input) None h i e e' is p none = absurd p.took
-closed_output outcome.Closed n s t a b (Some input) (Some left) h i e e' is p none =
-    let all : input ≡ p.taken = p.took ∙ ap (λ (x : Bytes). p.taken ++ x) p.ends.2 ∙ append-nil p.taken in
-    let found : requests input ≡ (p.served, Whole) = ap requests all ∙ p.ends.0 in
-    let same : (requests input).0 ≡ p.served = ap (λ (x : List (List Bytes) × End). x.0) found in (
-      subst (OutputOf s t a h i) (sym same) (record { nows = p.nows; answers = p.answers; told = are_told a b p.nows p.readings; dialog = p.dialog; wrote = p.wrote }),
-      ap (λ (x : List (List Bytes) × End). x.1) found,
-    )
-closed_output outcome.NoMem n s t a b l l' h i e e' is p none = absurd (omega arith)
-closed_output outcome.ReadFault n s t a b l l' h i e e' is p none = absurd (omega arith)
-closed_output outcome.WriteFault n s t a b l l' h i e e' is p none = absurd (omega arith)
-closed_output outcome.Protocol n s t a b l l' h i e e' is p none = absurd (omega arith)
-closed_output outcome.Spent n s t a b l l' h i e e' is p none = absurd (omega arith)
+-- what was written, where no call to the sink failed
+output_of : (s t : StoreState) (a b h i : Known) (served : List (List Bytes)) (answers : List Answer) (line : Bytes) → Talked s t served answers a b → Appends h i (text answers ++ line) → OutputOf s t a h i served line
+output_of s t a b h i served answers line talked wrote = record { nows = talked.nows; answers = answers; told = are_told a b talked.nows talked.readings; dialog = talked.dialog; wrote = wrote }
 
--- the sink failed
-pub broken_output : (o : Outcome) (n : ℕ) (s t : State) (a b l l' h i : Known) (e e' : Bool) → n ≡ status o → Ran o s t a b l l' h i e e' → n ≡ 6 → HasFront s t l a h i
-broken_output outcome.WriteFault n s t a b None l' h i e e' is p six = tt
-broken_output outcome.WriteFault n s t a b (Some input) None h i e e' is p six = absurd p.took
-broken_output outcome.WriteFault n s t a b (Some input) (Some left) h i e e' is p six =
-    let on = requests_go_on p.taken left in
-    record {
-      served = p.served;
-      first = (p.ends.0 ++ on.0, ap (λ (x : Bytes). (requests x).0) p.took ∙ on.1 ∙ ap (λ (x : List (List Bytes)). x ++ on.0) p.ends.1 ∙ append_assoc p.served p.ends.0 on.0);
-      nows = p.nows;
-      answers = p.answers;
-      told = are_told a b p.nows p.readings;
-      dialog = p.dialog;
-      wrote = p.wrote;
-    }
-broken_output outcome.Closed n s t a b l l' h i e e' is p six = absurd (omega arith)
-broken_output outcome.NoMem n s t a b l l' h i e e' is p six = absurd (omega arith)
-broken_output outcome.ReadFault n s t a b l l' h i e e' is p six = absurd (omega arith)
-broken_output outcome.Protocol n s t a b l l' h i e e' is p six = absurd (omega arith)
-broken_output outcome.Spent n s t a b l l' h i e e' is p six = absurd (omega arith)
+-- an input that goes off has no QUIT before
+ends_badly : (input : Bytes) (served : List (List Bytes)) (line : Bytes) → IsOff input served line → EndsBadly input
+ends_badly input served line off = (ap has_quit (sym off.all) ∙ has_quit-none served off.none, off.broken)
 
--- the input is off the grammar, or ends inside a request
-bad_end : (l' : Known) (taken left : Bytes) (e : Bool) (found : End) → (requests taken).1 ≡ found → IsBroken found e (Some left) → (requests (taken ++ left)).1 ≡ Whole → ⊥
-bad_end l' taken left e Whole is p whole = p
-bad_end l' taken left e (Open unread) is p whole =
-    let same : taken ++ left ≡ taken = ap (λ (x : Bytes). taken ++ x) p.1 ∙ append-nil taken in
-    let both : Open unread ≡ Whole = sym is ∙ ap (λ (x : Bytes). (requests x).1) (sym same) ∙ whole in
-    absurd cc
-bad_end l' taken left e (Fault kind unread) is p whole =
-    let stays = faults_stay taken left kind unread is in
-    let both : Fault kind (unread + length left) ≡ Whole = ap (λ (x : List (List Bytes) × End). x.1) (sym stays) ∙ whole in
-    absurd cc
+module _ (n : ℕ) (s t : StoreState) (a b l' h i : Known) (e e' : Bool) where
+  -- the input was read to its end, or to a QUIT
+  pub closed_output : (o : Outcome) (l : Known) → n ≡ status o → (p : Ran o l l' h i e e') → Talked s t p.served p.answers a b → n ≡ 0 → IsAnswered s t l a h i
+  closed_output outcome.Closed None is p talked zero = tt
+  closed_output outcome.Closed (Some input) is p talked zero =
+      let q = ends_input outcome.Closed input p.taken l' p.served p.line e e' p.took p.ends in
+      let all = output_of s t a b h i p.served p.answers p.line talked p.wrote in
+      (subst (λ (rs : List (List Bytes)). OutputOf s t a h i rs []) q.1 (subst (OutputOf s t a h i p.served) q.0 all), q.2)
+  closed_output outcome.NoMem l is p talked zero = absurd (omega (arith, is, zero))
+  closed_output outcome.ReadFault l is p talked zero = absurd (omega (arith, is, zero))
+  closed_output outcome.WriteFault l is p talked zero = absurd (omega (arith, is, zero))
+  closed_output outcome.Protocol l is p talked zero = absurd (omega (arith, is, zero))
+  closed_output outcome.Spent l is p talked zero = absurd (omega (arith, is, zero))
 
-pub protocol_output : (o : Outcome) (n : ℕ) (s t : State) (a b l l' h i : Known) (e e' : Bool) → n ≡ status o → Ran o s t a b l l' h i e e' → n ≡ 7 → EndsBadly l
-protocol_output outcome.Protocol n s t a b None l' h i e e' is p seven = tt
-protocol_output outcome.Protocol n s t a b (Some input) None h i e e' is p seven = absurd p.took
-protocol_output outcome.Protocol n s t a b (Some input) (Some left) h i e e' is p seven =
-    λ whole. bad_end (Some left) p.taken left e' (requests p.taken).1 refl p.ends.1 (ap (λ (x : Bytes). (requests x).1) (sym p.took) ∙ whole)
-protocol_output outcome.Closed n s t a b l l' h i e e' is p seven = absurd (omega arith)
-protocol_output outcome.NoMem n s t a b l l' h i e e' is p seven = absurd (omega arith)
-protocol_output outcome.ReadFault n s t a b l l' h i e e' is p seven = absurd (omega arith)
-protocol_output outcome.WriteFault n s t a b l l' h i e e' is p seven = absurd (omega arith)
-protocol_output outcome.Spent n s t a b l l' h i e e' is p seven = absurd (omega arith)
+  -- the sink failed
+  pub broken_output : (o : Outcome) (l : Known) → n ≡ status o → (p : Ran o l l' h i e e') → Talked s t p.served p.answers a b → n ≡ 6 → HasFront s t l a h i
+  broken_output outcome.WriteFault None is p talked six = tt
+  broken_output outcome.WriteFault (Some input) is p talked six = record {
+    served = p.served;
+    line = p.line;
+    under_way = ends_input outcome.WriteFault input p.taken l' p.served p.line e e' p.took p.ends;
+    nows = talked.nows;
+    answers = p.answers;
+    told = are_told a b talked.nows talked.readings;
+    dialog = talked.dialog;
+    wrote = p.wrote;
+  }
+  broken_output outcome.Closed l is p talked six = absurd (omega (arith, is, six))
+  broken_output outcome.NoMem l is p talked six = absurd (omega (arith, is, six))
+  broken_output outcome.ReadFault l is p talked six = absurd (omega (arith, is, six))
+  broken_output outcome.Protocol l is p talked six = absurd (omega (arith, is, six))
+  broken_output outcome.Spent l is p talked six = absurd (omega (arith, is, six))
+
+  -- the input is off the grammar, or ends inside a request
+  pub protocol_output : (o : Outcome) (l : Known) → n ≡ status o → (p : Ran o l l' h i e e') → Talked s t p.served p.answers a b → n ≡ 7 → IsRejected s t l a h i
+  protocol_output outcome.Protocol None is p talked seven = tt
+  protocol_output outcome.Protocol (Some input) is p talked seven =
+      let off = ends_input outcome.Protocol input p.taken l' p.served p.line e e' p.took p.ends in
+      let all = output_of s t a b h i p.served p.answers p.line talked p.wrote in
+      (subst (λ (rs : List (List Bytes)). OutputOf s t a h i rs (end_line (length input) (requests input).1)) off.all (subst (OutputOf s t a h i p.served) off.tells all), ends_badly input p.served p.line off)
+  protocol_output outcome.Closed l is p talked seven = absurd (omega (arith, is, seven))
+  protocol_output outcome.NoMem l is p talked seven = absurd (omega (arith, is, seven))
+  protocol_output outcome.ReadFault l is p talked seven = absurd (omega (arith, is, seven))
+  protocol_output outcome.WriteFault l is p talked seven = absurd (omega (arith, is, seven))
+  protocol_output outcome.Spent l is p talked seven = absurd (omega (arith, is, seven))
+
+-- an input that is complete does not end badly
+complete_or_bad : (input : Bytes) → IsComplete input → EndsBadly input → ⊥
+complete_or_bad input complete bad =
+    ⊎_elim
+    (λ (quit : has_quit (requests input).0 ≡ true). (let both : false ≡ true = sym bad.0 ∙ quit in absurd cc))
+    (λ (whole : (requests input).1 ≡ Whole). bad.1 whole)
+    complete
 
 -- an input that is whole is answered, unless the source or the sink failed or memory ran out
-pub whole_is_answered : (o : Outcome) (n : ℕ) (s t : State) (a b l l' h i : Known) (e e' : Bool) (f f' k k' : ℕ) → n ≡ status o → Ran o s t a b l l' h i e e' → IsCaused o f f' k k' → IsWhole l → (Rose f f' → ⊥) → (Rose k k' → ⊥) → (n ≡ 0) ⊎ (n ≡ 4)
-whole_is_answered outcome.Closed n s t a b l l' h i e e' f f' k k' is p c whole read written = inl is
-whole_is_answered outcome.NoMem n s t a b l l' h i e e' f f' k k' is p c whole read written = inr is
-whole_is_answered outcome.ReadFault n s t a b l l' h i e e' f f' k k' is p c whole read written = absurd (read c)
-whole_is_answered outcome.WriteFault n s t a b l l' h i e e' f f' k k' is p c whole read written = absurd (written c)
-whole_is_answered outcome.Protocol n s t a b None l' h i e e' f f' k k' is p c whole read written = absurd whole
-whole_is_answered outcome.Protocol n s t a b (Some input) l' h i e e' f f' k k' is p c whole read written = absurd (protocol_output outcome.Protocol 7 s t a b (Some input) l' h i e e' refl p refl whole.0)
-whole_is_answered outcome.Spent n s t a b None l' h i e e' f f' k k' is p c whole read written = absurd whole
-whole_is_answered outcome.Spent n s t a b (Some input) None h i e e' f f' k k' is p c whole read written = absurd p.took
-whole_is_answered outcome.Spent n s t a b (Some input) (Some left) h i e e' f f' k k' is p c whole read written =
-    let full : length p.taken ≡ 2 ^ 40 = p.ends.1 in
-    let all : length input ≡ length p.taken + length left = ap length p.took ∙ length-append p.taken left in
-    let no : ⊥ = omega (arith, whole.1, full, all) in
-    absurd no
-
--- a clock that tells the same before and afterwards
-pub ran_with : (o : Outcome) (s t : State) (a a' b b' l l' h i : Known) (e e' : Bool) → Ran o s t a b l l' h i e e' → a' ≡ a → b' ≡ b → Ran o s t a' b' l l' h i e e'
-ran_with o s t a a' b b' l l' h i e e' p before after = subst (λ (x : Known). Ran o s t x b' l l' h i e e') (sym before) (subst (λ (x : Known). Ran o s t a x l l' h i e e') (sym after) p)
+pub whole_is_answered : (o : Outcome) (n : ℕ) (l l' h i : Known) (e e' : Bool) (f f' k k' : ℕ) → n ≡ status o → Ran o l l' h i e e' → IsCaused o f f' k k' → IsWhole l → (Rose f f' → ⊥) → (Rose k k' → ⊥) → (n ≡ 0) ⊎ (n ≡ 4)
+whole_is_answered outcome.Closed n l l' h i e e' f f' k k' is p c whole read written = inl is
+whole_is_answered outcome.NoMem n l l' h i e e' f f' k k' is p c whole read written = inr is
+whole_is_answered outcome.ReadFault n l l' h i e e' f f' k k' is p c whole read written = absurd (read c)
+whole_is_answered outcome.WriteFault n l l' h i e e' f f' k k' is p c whole read written = absurd (written c)
+whole_is_answered outcome.Protocol n None l' h i e e' f f' k k' is p c whole read written = absurd whole
+whole_is_answered outcome.Protocol n (Some input) l' h i e e' f f' k k' is p c whole read written =
+    let off = ends_input outcome.Protocol input p.taken l' p.served p.line e e' p.took p.ends in
+    absurd (complete_or_bad input whole.0 (ends_badly input p.served p.line off))
+whole_is_answered outcome.Spent n None l' h i e e' f f' k k' is p c whole read written = absurd whole
+whole_is_answered outcome.Spent n (Some input) l' h i e e' f f' k k' is p c whole read written =
+    let spent = ends_input outcome.Spent input p.taken l' p.served p.line e e' p.took p.ends in
+    absurd (omega (arith, whole.1, spent.2))

@@ -4,14 +4,18 @@ use Rattle.kv_base.specs.declared.fault.StoreFault.{StoreFault}
 use Rattle.kv_base.specs.declared.fault.StoreFault.TheVariants as fault
 use Rattle.kv_outside.specs.Causes.{Rose, rose_since}
 use Rattle.kv_outside.specs.Disk.{Disk}
-use Rattle.redis_model.specs.Machine.{State}
 use Rattle.session.specs.declared.session.Outcome.{Outcome}
 use Rattle.session.specs.declared.session.Outcome.TheVariants as outcome
 use Rattle.session.specs.Session.{IsCaused}
 use Rattle.session.specs.Answer.{damage_line}
-use Rattle.kv_server.specs.Recover.{Recovered, state_from}
-use Rattle.kv_server.specs.Keeping.{KeptState, kept_keys, state_of_kept, FailsToOpen, IsKept, IsOpened, Keeps, KeepsOrMore}
-use Rattle.kv_server.specs.Script.{status, opening_status, unclosed_status, EndsWith, Tells, IsWritten, IsRun, IsGood, IsFront, IsDamageTold, EndsBadly, IsWhole, Ran, IsSession}
+use Rattle.redis_model.specs.Machine.{State}
+use Rattle.redis_model.specs.Value.{RedisMap}
+use Rattle.lives_model.specs.Means.{Means}
+use Rattle.log_store.specs.Recover.{Recovered}
+use Rattle.log_store.specs.Keeping.{StoreState as KeptState, FailsToOpen, IsKept, IsOpened, StandsFor, Keeps, KeepsOrMore}
+use Rattle.log_store.specs.KeepLaws.{opened_stands}
+use Rattle.kv_server.specs.Dialog.{StoreState}
+use Rattle.kv_server.specs.Script.{status, opening_status, unclosed_status, EndsWith, Tells, IsWritten, IsRun, IsGood, IsFaultTold, IsFront, IsDamageTold, IsWhole, IsSession, LeavesKeys, Opened, Talked, Went, store_of, store_from}
 use Rattle.kv_server.proofs.Output.{Known, closed_output, broken_output, protocol_output, whole_is_answered}
 
 -- ---- which status can be which
@@ -55,23 +59,27 @@ refused_status : (n : ℕ) (f : StoreFault) → n ≡ opening_status f → (n �
 refused_status n f is = rw is (opening_is f)
 
 module _ (n : ℕ) (disk disk' : Disk) (files files' : ℕ) (a a' l l' h i : Known) (e e' : Bool) (s s' k k' : ℕ) where
-  pub good_run : IsRun n disk disk' files files' a a' l l' h i e e' s s' k k' → n ≡ 0 → IsGood disk disk' l a h i
+  -- what holds of what comes of a store that was opened holds of the store
+  opened_on : {P Q : StoreState → Type 0} → ((first : StoreState) → P first → Q first) → Opened disk files P → Opened disk files Q
+  opened_on on o = record { start = o.start; begins = o.begins; faults = o.faults; since = o.since; holds = λ keys means. on (store_from o.start keys o.faults) (o.holds keys means) }
+
+  pub good_run : IsRun n disk disk' files files' a a' l l' h i e e' s s' k k' → n ≡ 0 → Opened disk files (IsGood disk' files' l a h i)
   good_run (inl r) zero = let is = refused_status n r.fault r.status in absurd (omega (arith, zero, is))
   good_run (inr r) zero =
       let is : n ≡ status r.outcome = session_status r.outcome n files files' r.ends (omega (arith, zero)) in
-      record { start = r.start; begins = r.begins; last = r.last; answered = closed_output r.outcome n (state_from r.start) r.last a a' l l' h i e e' is r.ran zero; kept = r.kept zero }
+      opened_on (λ first (w : Went n disk' files' r.ran.served r.ran.answers a a' first). record { last = w.last; until = w.until; answered = closed_output n first w.last a a' l' h i e e' r.outcome l is r.ran w.talked zero; kept = w.kept zero }) r.opened
 
-  pub front_run : IsRun n disk disk' files files' a a' l l' h i e e' s s' k k' → n ≡ 6 → IsFront disk l a h i
+  pub front_run : IsRun n disk disk' files files' a a' l l' h i e e' s s' k k' → n ≡ 6 → Opened disk files (IsFront disk' files' l a h i)
   front_run (inl r) six = let is = refused_status n r.fault r.status in absurd (omega (arith, six, is))
   front_run (inr r) six =
       let is : n ≡ status r.outcome = session_status r.outcome n files files' r.ends (omega (arith, six)) in
-      record { start = r.start; begins = r.begins; last = r.last; front = broken_output r.outcome n (state_from r.start) r.last a a' l l' h i e e' is r.ran six }
+      opened_on (λ first (w : Went n disk' files' r.ran.served r.ran.answers a a' first). record { last = w.last; until = w.until; front = broken_output n first w.last a a' l' h i e e' r.outcome l is r.ran w.talked six; kept_or_more = w.kept_or_more }) r.opened
 
-  pub bad_run : IsRun n disk disk' files files' a a' l l' h i e e' s s' k k' → n ≡ 7 → EndsBadly l
-  bad_run (inl r) seven = let is = refused_status n r.fault r.status in absurd (omega (arith, seven, is))
-  bad_run (inr r) seven =
+  pub protocol_run : IsRun n disk disk' files files' a a' l l' h i e e' s s' k k' → n ≡ 7 → Opened disk files (IsFaultTold disk' files' l a h i)
+  protocol_run (inl r) seven = let is = refused_status n r.fault r.status in absurd (omega (arith, seven, is))
+  protocol_run (inr r) seven =
       let is : n ≡ status r.outcome = session_status r.outcome n files files' r.ends (omega (arith, seven)) in
-      protocol_output r.outcome n (state_from r.start) r.last a a' l l' h i e e' is r.ran seven
+      opened_on (λ first (w : Went n disk' files' r.ran.served r.ran.answers a a' first). record { last = w.last; until = w.until; rejected = protocol_output n first w.last a a' l' h i e e' r.outcome l is r.ran w.talked seven; kept_or_more = w.kept_or_more }) r.opened
 
   told_damage : (f : StoreFault) → n ≡ opening_status f → FailsToOpen disk files files' f → Tells f h i k k' → n ≡ 3 → IsDamageTold disk h i k k'
   told_damage fault.Failed is cause wrote three = absurd (omega (arith, is, three))
@@ -136,7 +144,7 @@ module _ (n : ℕ) (disk disk' : Disk) (files files' : ℕ) (a a' l l' h i : Kno
   whole_run (inl r) whole never read written = opened_or_not r.fault r.status r.cause never
   whole_run (inr r) whole never read written =
       ⊎_elim (λ (zero : n ≡ 0). inl zero) (λ (four : n ≡ 4). inr (inr four))
-      (whole_is_answered r.outcome n (state_from r.start) r.last a a' l l' h i e e' s s' k k' (closed_or_not r.outcome r.ends never) r.ran r.caused whole read written)
+      (whole_is_answered r.outcome n l l' h i e e' s s' k k' (closed_or_not r.outcome r.ends never) r.ran r.caused whole read written)
 
   not_one : IsRun n disk disk' files files' a a' l l' h i e e' s s' k k' → n ≢ 1
   not_one (inl r) one = let is = refused_status n r.fault r.status in omega (arith, one, is)
@@ -147,28 +155,36 @@ module _ (n : ℕ) (disk disk' : Disk) (files files' : ℕ) (a a' l l' h i : Kno
 
 -- ---- the parts of a run
 
-same_start : (r : Recovered) (k : KeptState) → r.keys ≡ kept_keys k → r.floor ≡ k.floor → state_of_kept k ≡ state_from r
-same_start r k keys floor = λ j. record { keys = sym keys j; floor = sym floor j; pins = [] }
-
 ends_since : (o : Outcome) (n first before now : ℕ) → first ≤ before → EndsWith o n before now → EndsWith o n first now
 ends_since o n first before now later (inl is) = inl is
 ends_since o n first before now later (inr closing) = inr (closing.0, rose_since first before now later closing.1)
 
+-- the store at the opening, by what was read of the log
+same_start : (r : Recovered) (k : KeptState) (keys : RedisMap) (faults : ℕ) → r.sequence ≡ k.sequence → store_of (record { keys = keys; floor = r.floor; pins = [] }) k faults ≡ store_from r keys faults
+same_start r k keys faults sequence = λ j. record { state = record { keys = keys; floor = r.floor; pins = [] }; sequence = sym sequence j; faults = faults }
+
 pub served_run : (n : ℕ) (old opened ended new : Disk) (f0 f1 f2 f3 : ℕ) (k k' : KeptState) (o : Outcome) (a a' l l' h i : Known) (e e' : Bool) (s s' t t' : ℕ)
-    → IsOpened old opened k → f0 ≤ f1 → f1 ≤ f2
-    → (IsKept opened k → IsSession o k k' ended a a' l l' h i e e') → IsCaused o s s' t t'
-    → EndsWith o n f2 f3 → (n ≡ 0 → IsKept ended k' → Keeps new (kept_keys k')) → (IsKept ended k' → KeepsOrMore new (kept_keys k'))
+    → IsOpened old opened k → f0 ≤ f1 → f1 ≤ f2 → f2 ≤ f3
+    → (IsKept opened k → IsSession o k k' f1 f2 ended a a' l l' h i e e') → IsCaused o s s' t t'
+    → EndsWith o n f2 f3 → (n ≡ 0 → IsKept ended k' → (s : State) → StandsFor k' s → LeavesKeys new s) → (IsKept ended k' → Keeps new k'.rows k'.written ⊎ KeepsOrMore new k'.rows k'.written k'.sequence)
     → IsRun n old new f0 f3 a a' l l' h i e e' s s' t t'
-served_run n old opened ended new f0 f1 f2 f3 k k' o a a' l l' h i e e' s s' t t' opening later more session caused ends closed unclosed =
+served_run n old opened ended new f0 f1 f2 f3 k k' o a a' l l' h i e e' s s' t t' opening later more closing session caused ends closed unclosed =
     let went = session opening.keeps in
     inr (record {
-      start = opening.state;
-      begins = opening.start;
-      last = state_of_kept k';
       outcome = o;
-      ran = subst (λ (x : State). Ran o x (state_of_kept k') a a' l l' h i e e') (same_start opening.state k opening.keys opening.floor) went.ran;
+      ran = went.ran;
       caused = caused;
       ends = ends_since o n f0 f2 f3 (omega (arith, later, more)) ends;
-      kept = λ zero. closed zero went.keeps;
-      kept_or_more = unclosed went.keeps;
+      opened = record { start = opening.state; begins = opening.start; faults = f1; since = later; holds = λ keys means. leads_to went keys means };
     })
+  where
+    leads_to : (went : IsSession o k k' f1 f2 ended a a' l l' h i e e') (keys : RedisMap) → Means opening.state.rows opening.state.floor keys → Went n new f3 went.ran.served went.ran.answers a a' (store_from opening.state keys f1)
+    leads_to went keys means =
+        let on = went.leads (record { keys = keys; floor = opening.state.floor; pins = [] }) (opened_stands old opened k opening keys means) in
+        record {
+          last = store_of on.state k' f2;
+          until = closing;
+          talked = subst (λ (x : StoreState). Talked x (store_of on.state k' f2) went.ran.served went.ran.answers a a') (same_start opening.state k keys f1 opening.sequence) on.talked;
+          kept = λ zero. closed zero on.keeps on.state on.stands;
+          kept_or_more = record { store = k'; stands = on.stands; leaves = unclosed on.keeps };
+        }

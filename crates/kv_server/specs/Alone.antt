@@ -1,17 +1,20 @@
--- A desk of one caller, who is alone: what it has seen is the whole history, and leads to its state.
-use Rattle.std.specs.Prelude.{◌≡◌, ℕ, false, List, [], ◌∷◌, ◌++◌, Option, Some, Result, Ok, Err, refl}
-use Rattle.std.proofs.Common.{sym, ap, subst, ◌∙◌, inl}
+-- A desk of one caller, who is alone: what it has seen is the whole history.
+use Rattle.std.specs.Prelude.{◌≡◌, ◌+◌, ℕ, false, List, [], ◌∷◌, ◌++◌, Some, Result, Ok, Err, refl}
+use Rattle.std.proofs.Common.{sym, ap, subst, ◌∙◌, inl, arith}
 use Rattle.std.proofs.lemmas.List.{append-nil}
 use Rattle.redis_model.specs.declared.command.Command.{Command}
+use Rattle.redis_model.specs.declared.command.Cmds.TheVariants.{One}
 use Rattle.redis_model.specs.declared.desk.DeskFault.{DeskFault}
 use Rattle.redis_model.specs.declared.reply.Reply.{Reply}
 use Rattle.redis_model.specs.declared.history.Step.{Step}
 use Rattle.redis_model.specs.declared.history.Step.TheVariants.{Call}
 use Rattle.redis_model.specs.declared.history.Place.{Place}
 use Rattle.redis_model.specs.declared.history.Note.{Note}
+use Rattle.redis_model.specs.declared.history.Note.TheVariants.{Bare, Batch}
 use Rattle.redis_model.specs.Machine.{State, run, step}
 use Rattle.redis_model.specs.Legal.{IsLegal, IsLegalFrom, MayStep, Jobs, no_jobs, jobs_after}
 use Rattle.redis_model.specs.Desk.{steps_of, state_at, has_pin, IsSeen, Follows, Leaves}
+use Rattle.log_store.specs.Playing.{batches_of}
 
 -- each entry is a call of the caller 0
 abbrev pub IsOwnCall : Step → Type 0
@@ -22,18 +25,17 @@ abbrev pub AreOwnCalls : List Place → Type 0
 AreOwnCalls [] = Unit {0}
 AreOwnCalls (p ∷ ps) = IsOwnCall p.what × AreOwnCalls ps
 
--- The calls of one caller lead from the first state to this one, which has no pin.
-pub record LeadsTo (s : State) (first : State) (seen : List Place) : Type 0 where
+-- The history is legal, has the calls of one caller alone, and leaves nobody a pin.
+pub record IsAlone (first : State) (seen : List Place) : Type 0 where
   pub calls : AreOwnCalls seen
   pub legal : IsLegal first (steps_of seen)
-  pub state : state_at first seen ≡ s
-  pub free : s.pins ≡ []
+  pub free : (state_at first seen).pins ≡ []
 
-free_has_none : (s : State) → s.pins ≡ [] → has_pin s 0 ≡ false
+pub free_has_none : (s : State) → s.pins ≡ [] → has_pin s 0 ≡ false
 free_has_none s free = rw free refl
 
-pub knows_alone : (s first : State) (seen : List Place) → LeadsTo s first seen → IsSeen 0 false first seen
-knows_alone s first seen leads = record { legal = leads.legal; pin = ap (λ (x : State). has_pin x 0) leads.state ∙ free_has_none s leads.free }
+pub knows_alone : (first : State) (seen : List Place) → IsAlone first seen → IsSeen 0 false first seen
+knows_alone first seen alone = record { legal = alone.legal; pin = free_has_none (state_at first seen) alone.free }
 
 -- ---- one call more
 
@@ -41,7 +43,7 @@ run_more : (s : State) (es : List Step) (e : Step) → run s (es ++ e ∷ []) �
 run_more s [] e = refl
 run_more s (x ∷ es) e = run_more (step s x).1 es e
 
-steps_more : (seen : List Place) (p : Place) → steps_of (seen ++ p ∷ []) ≡ steps_of seen ++ p.what ∷ []
+pub steps_more : (seen : List Place) (p : Place) → steps_of (seen ++ p ∷ []) ≡ steps_of seen ++ p.what ∷ []
 steps_more [] p = refl
 steps_more (x ∷ seen) p = ap (λ (es : List Step). x.what ∷ es) (steps_more seen p)
 
@@ -63,37 +65,83 @@ legal_more s j (p ∷ seen) e all legal may =
           (legal_more (step s p.what).1 j seen e all.1 (subst (λ (k : Jobs). IsLegalFrom (step s p.what).1 k (steps_of seen)) same legal.1) may),
     )
 
-pub leads_on : (s s' : State) (reply : Option Reply) (now : ℕ) (c : Command) (note : Note) (first : State) (seen : List Place) → LeadsTo s first seen → step s (Call now 0 c) ≡ (reply, s') → s'.pins ≡ [] → LeadsTo s' first (seen ++ record { what = Call now 0 c; note = note } ∷ [])
-leads_on s s' reply now c note first seen leads does free =
+pub state_more : (first : State) (seen : List Place) (p : Place) → state_at first (seen ++ p ∷ []) ≡ (step (state_at first seen) p.what).1
+state_more first seen p = ap (run first) (steps_more seen p) ∙ run_more first (steps_of seen) p.what
+
+-- a call more, after which nobody has a pin
+pub alone_on : (now : ℕ) (c : Command) (note : Note) (first : State) (seen : List Place) → IsAlone first seen → (step (state_at first seen) (Call now 0 c)).1.pins ≡ []
+    → IsAlone first (seen ++ record { what = Call now 0 c; note = note } ∷ [])
+alone_on now c note first seen alone free =
     let p : Place = record { what = Call now 0 c; note = note } in
-    let more = steps_more seen p in
-    let may : MayStep (state_at first seen) no_jobs (Call now 0 c) = subst (λ (x : State). MayStep x no_jobs (Call now 0 c)) (sym leads.state) (may_call s leads.free) in
     record {
-      calls = calls_more seen p leads.calls refl;
-      legal = subst (λ (es : List Step). IsLegal first es) (sym more) (legal_more first no_jobs seen (Call now 0 c) leads.calls leads.legal may);
-      state = ap (run first) more ∙ run_more first (steps_of seen) (Call now 0 c) ∙ ap (λ (x : State). (step x (Call now 0 c)).1) leads.state ∙ ap (λ (r : Option Reply × State). r.1) does;
-      free = free;
+      calls = calls_more seen p alone.calls refl;
+      legal = subst (λ (es : List Step). IsLegal first es) (sym (steps_more seen p)) (legal_more first no_jobs seen (Call now 0 c) alone.calls alone.legal (may_call (state_at first seen) alone.free));
+      free = ap (λ (s : State). s.pins) (state_more first seen p) ∙ free;
     }
   where
     may_call : (s : State) → s.pins ≡ [] → MayStep s no_jobs (Call now 0 c)
     may_call s none = rw none refl
 
+-- ---- the sequence of the last batch
+
+-- how many batches an entry appended that found this state
+abbrev pub batches_at : State → Step → ℕ
+batches_at s (Call now caller c) = batches_of s now (One c)
+batches_at s _ = 0
+
+-- how many batches the calls at these places appended
+abbrev pub batches_in : State → List Place → ℕ
+batches_in s [] = 0
+batches_in s (p ∷ ps) = batches_at s p.what + batches_in (step s p.what).1 ps
+
+-- the sequence behind these places, where it was noted in front of them
+abbrev pub IsBehind : Note → State → List Place → ℕ → Type 0
+IsBehind Bare s ps n = Unit {0}
+IsBehind (Batch first) s ps n = n ≡ first + batches_in s ps
+
+-- Where the first of these places notes a sequence, each batch behind it has the next one, and this is the last.
+abbrev pub HasSequence : State → List Place → ℕ → Type 0
+HasSequence first [] n = Unit {0}
+HasSequence first (p ∷ ps) n = IsBehind p.note (step first p.what).1 ps n
+
+pub batches_in-append : (s : State) (ps qs : List Place) → batches_in s (ps ++ qs) ≡ batches_in s ps + batches_in (state_at s ps) qs
+batches_in-append s [] qs = omega arith
+batches_in-append s (p ∷ ps) qs = let rest = batches_in-append (step s p.what).1 ps qs in omega (arith, rest)
+
+pub sequence_on : (first : State) (seen : List Place) (p : Place) (n : ℕ) → p.note ≡ Bare → HasSequence first seen n → HasSequence first (seen ++ p ∷ []) (n + batches_at (state_at first seen) p.what)
+sequence_on first [] p n bare has = rw bare tt
+sequence_on first (q ∷ ps) p n bare has = by_note q.note has
+  where
+    by_note : (note : Note) → IsBehind note (step first q.what).1 ps n → IsBehind note (step first q.what).1 (ps ++ p ∷ []) (n + batches_at (state_at (step first q.what).1 ps) p.what)
+    by_note Bare is = tt
+    by_note (Batch start) is = let all = batches_in-append (step first q.what).1 ps (p ∷ []) in omega (arith, is, all)
+
 -- ---- what the desk's calls leave
 
-pub record GoesOn (s s' first : State) (seen : List Place) (now : ℕ) (c : Command) (result : Result Reply DeskFault) : Type 0 where
+-- how many batches a call appended that found this state
+abbrev pub batches_by : State → ℕ → Command → Result Reply DeskFault → ℕ
+batches_by s now c (Ok reply) = batches_of s now (One c)
+batches_by s now c (Err fault) = 0
+
+-- the history goes on by a call, after which this is the machine's state
+pub record GoesOn (first : State) (seen : List Place) (now : ℕ) (c : Command) (result : Result Reply DeskFault) (s : State) : Type 0 where
   pub after : List Place
-  pub leads : LeadsTo s' first after
+  pub alone : IsAlone first after
+  pub state : state_at first after ≡ s
   pub follows : Follows 0 seen after
   pub leaves : Leaves 0 first seen now c result after
+  pub sequence : (n : ℕ) → HasSequence first seen n → HasSequence first after (n + batches_by (state_at first seen) now c result)
 
 -- it answered as the machine does
-pub goes_on : (s s' : State) (reply : Reply) (now : ℕ) (c : Command) (note : Note) (first : State) (seen : List Place) → LeadsTo s first seen → step s (Call now 0 c) ≡ (Some reply, s') → s'.pins ≡ [] → GoesOn s s' first seen now c (Ok reply)
-goes_on s s' reply now c note first seen leads does free =
-    let own : Place = record { what = Call now 0 c; note = note } in
-    let known = knows_alone s first seen leads in
+pub goes_on : (reply : Reply) (now : ℕ) (c : Command) (first : State) (seen : List Place) → IsAlone first seen → (step (state_at first seen) (Call now 0 c)).0 ≡ Some reply
+    → (step (state_at first seen) (Call now 0 c)).1.pins ≡ [] → GoesOn first seen now c (Ok reply) (step (state_at first seen) (Call now 0 c)).1
+goes_on reply now c first seen alone answer free =
+    let own : Place = record { what = Call now 0 c; note = Bare } in
+    let known = knows_alone first seen alone in
     record {
       after = seen ++ own ∷ [];
-      leads = leads_on s s' (Some reply) now c note first seen leads does free;
+      alone = alone_on now c Bare first seen alone free;
+      state = state_more first seen own;
       follows = record { added = own ∷ []; grown = refl; ended = tt };
       leaves = record {
         before = [];
@@ -104,15 +152,18 @@ goes_on s s' reply now c note first seen leads does free =
         idle = refl;
         is = rw known.pin refl;
         once = refl;
-        answered = ap (λ (xs : List Place). (step (state_at first xs) (Call now 0 c)).0) (append-nil seen) ∙ ap (λ (x : State). (step x (Call now 0 c)).0) leads.state ∙ ap (λ (r : Option Reply × State). r.0) does;
+        answered = ap (λ (xs : List Place). (step (state_at first xs) (Call now 0 c)).0) (append-nil seen) ∙ answer;
       };
+      sequence = λ n has. sequence_on first seen own n refl has;
     }
 
 -- it failed, and is as it was
-pub stays_so : (s : State) (now : ℕ) (c : Command) (fault : DeskFault) (first : State) (seen : List Place) → LeadsTo s first seen → GoesOn s s first seen now c (Err fault)
-stays_so s now c fault first seen leads = record {
+pub stays_so : (now : ℕ) (c : Command) (fault : DeskFault) (first : State) (seen : List Place) → IsAlone first seen → GoesOn first seen now c (Err fault) (state_at first seen)
+stays_so now c fault first seen alone = record {
   after = seen;
-  leads = leads;
+  alone = alone;
+  state = refl;
   follows = record { added = []; grown = sym (append-nil seen); ended = tt };
   leaves = record { added = []; grown = sym (append-nil seen); own = tt };
+  sequence = λ n has. (let same : n ≡ n + 0 = omega arith in subst (HasSequence first seen) same has);
 }

@@ -1,34 +1,82 @@
--- What a server says to the requests of one client, who is alone, by the machine.
-use Rattle.std.specs.Prelude.{◌≡◌, ◌⊎◌, ℕ, IsFalse, List, [], ◌∷◌, ◌++◌, Some, Result, Ok, Err}
+-- What a server says to the requests of one client, who is alone, by the machine, and why an answer is a fault.
+use Rattle.std.specs.Prelude.{◌≡◌, ◌≢◌, ◌⊎◌, ◌≤◌, ◌<◌, ◌+◌, ℕ, IsFalse, List, [], ◌∷◌, ◌++◌, Option, Some, Result}
 use Rattle.kv_base.specs.Map.{Bytes}
+use Rattle.kv_outside.specs.Causes.{Rose}
+use Rattle.batch_codec.specs.Batches.{Batch}
 use Rattle.redis_model.specs.declared.command.Command.{Command}
+use Rattle.redis_model.specs.declared.command.Cmds.TheVariants.{One}
+use Rattle.redis_model.specs.declared.desk.DeskFault.{DeskFault}
+use Rattle.redis_model.specs.declared.desk.DeskFault.TheVariants as desk_fault
 use Rattle.redis_model.specs.declared.history.Step.TheVariants.{Call}
+use Rattle.redis_model.specs.declared.reply.Reply.{Reply}
 use Rattle.redis_model.specs.About.{writes}
 use Rattle.redis_model.specs.Apply.{due}
-use Rattle.redis_model.specs.Machine.{State, step}
+use Rattle.redis_model.specs.Desk.{last_sequence, longest_body}
+use Rattle.redis_model.specs.Machine.{State, step, moment_at, at_moment}
+use Rattle.lives_model.specs.Rows.{Rows}
+use Rattle.lives_model.specs.Means.{Means}
+use Rattle.lives_model.specs.Plans.{IsPlanFor}
+use Rattle.cmd_words.specs.Parsed.{parsed_as, IsParsed}
+use Rattle.cmd_words.specs.declared.fault.CommandFault.{CommandFault}
+use Rattle.cmd_words.specs.declared.parsed.Parsed.{Parsed}
 use Rattle.session.specs.declared.answer.Answer.{Answer}
-use Rattle.session.specs.declared.answer.Answer.TheVariants.{Reply, Refused, Fault}
-use Rattle.session.specs.declared.parse.Asked.{Asked}
-use Rattle.session.specs.declared.parse.Refusal.{Refusal}
-use Rattle.session.specs.Words.{asked, meant, weight_of}
+use Rattle.session.specs.declared.answer.Answer.TheVariants as answer
+use Rattle.session.specs.Talk.{Asked, ToDesk, Own, asked}
+use Rattle.log_store.specs.Playing.{batches_of, planned_for}
 
--- A command at a reading of the clock has the machine's reply, or a fault. A fault leaves the state as it was, or as a
--- command leaves it that only reads.
-abbrev pub Answers : State → ℕ → Command → Answer → State → Type 0
-Answers old now c (Reply reply) new = step old (Call now 0 c) ≡ (Some reply, new)
-Answers old now c (Refused refusal) new = ⊥
-Answers old now c (Fault fault) new = (new ≡ old) ⊎ (IsFalse (writes c) × (new ≡ (step old (Call now 0 c)).1))
+-- a store between two calls: the machine's state, the sequence of the last batch in the log, and how often a call to the
+-- files has failed
+pub record StoreState : Type 0 where
+  pub state : State
+  pub sequence : ℕ
+  pub faults : ℕ
 
--- One request has this answer, at these readings of the clock: one where it asks the machine. Words that ask for nothing
--- are refused.
-abbrev pub Turn : State → Result Asked Refusal → ℕ → List ℕ → Answer → State → Type 0
-Turn old (Err refusal) weight nows answer new = (answer ≡ Refused refusal) × (nows ≡ []) × (new ≡ old)
-Turn old (Ok a) weight nows answer new = (now : ℕ) × (nows ≡ now ∷ []) × Answers old now (due now (meant a weight)) answer new
+-- What carries the command out, on rows that mean the keys, has a body longer than a record can be.
+pub record IsTooLong (old : StoreState) (now : ℕ) (c : Command) : Type 0 where
+  pub rows : Rows
+  pub means : Means rows (moment_at old.state now) (at_moment old.state now).keys
+  pub batch : Batch
+  pub answer : Reply
+  pub until : Option ℕ
+  pub plan : IsPlanFor rows (moment_at old.state now) old.sequence (at_moment old.state now).keys (One c) batch answer until
+  pub long : longest_body < planned_for batch
 
--- From one state to another, these requests have these answers, in order, at these readings of the clock.
-abbrev pub Dialog : State → List (List Bytes) → List ℕ → List Answer → State → Type 0
+-- Why a command has no reply, from one state of the store to the next: a call to the files failed in it, there is no
+-- memory, or it touches a key and no sequence is left, or its batch is too long. There is no other cause.
+abbrev pub HasFault : StoreState → StoreState → ℕ → Command → DeskFault → Type 0
+HasFault old new now c desk_fault.IoError = Rose old.faults new.faults
+HasFault old new now c desk_fault.NoMem = Unit {0}
+HasFault old new now c desk_fault.SeqFull = (batches_of old.state now (One c) ≡ 1) × (old.sequence ≡ last_sequence)
+HasFault old new now c desk_fault.TooBig = IsTooLong old now c × (old.sequence ≢ last_sequence)
+HasFault old new now c _ = ⊥
+
+-- the state is as it was, or as a command leaves it that only reads
+abbrev pub IsWithheld : State → ℕ → Command → State → Type 0
+IsWithheld old now c new = (new ≡ old) ⊎ (IsFalse (writes c) × (new ≡ (step old (Call now 0 c)).1))
+
+-- A command at a reading of the clock has the machine's reply, and where it touches a key its batch has the next sequence; or
+-- it has a fault with its cause, which leaves the keys and the log's last sequence as they were.
+abbrev pub Answers : StoreState → ℕ → Command → Answer → StoreState → Type 0
+Answers old now c (answer.Reply reply) new = (step old.state (Call now 0 c) ≡ (Some reply, new.state)) × (new.sequence ≡ old.sequence + batches_of old.state now (One c)) × (new.sequence ≤ last_sequence)
+Answers old now c (answer.Fault fault) new = IsWithheld old.state now c new.state × (new.sequence ≡ old.sequence) × HasFault old new now c fault
+Answers old now c _ new = ⊥
+
+-- What is asked for has this answer, at these readings of the clock: one where the machine is asked. What asks nothing of
+-- it has an answer of its own, and leaves the store alone.
+abbrev pub TurnBy : StoreState → Asked → List ℕ → Answer → StoreState → Type 0
+TurnBy old (ToDesk c) nows answer new = (now : ℕ) × (nows ≡ now ∷ []) × Answers old now (due now c) answer new × (old.faults ≤ new.faults)
+TurnBy old (Own said) nows answer new = (answer ≡ said) × (nows ≡ []) × (new ≡ old)
+
+-- One request has this answer, as what its words are read into; memory may run out for that.
+pub record Turn (old : StoreState) (words : List Bytes) (nows : List ℕ) (answer : Answer) (new : StoreState) : Type 0 where
+  pub read : Result Parsed CommandFault
+  pub is : IsParsed read (parsed_as words)
+  pub turn : TurnBy old (asked read) nows answer new
+
+-- From one state of the store to another, these requests have these answers, in order, at these readings of the clock.
+abbrev pub Dialog : StoreState → List (List Bytes) → List ℕ → List Answer → StoreState → Type 0
 Dialog old [] nows [] new = (nows ≡ []) × (new ≡ old)
 Dialog old [] nows (answer ∷ answers) new = ⊥
 Dialog old (words ∷ others) nows [] new = ⊥
 Dialog old (words ∷ others) nows (answer ∷ answers) new =
-    (mid : State) × (first : List ℕ) × (rest : List ℕ) × (nows ≡ first ++ rest) × Turn old (asked words) (weight_of words) first answer mid × Dialog mid others rest answers new
+    (mid : StoreState) × (first : List ℕ) × (rest : List ℕ) × (nows ≡ first ++ rest) × Turn old words first answer mid × Dialog mid others rest answers new

@@ -1,35 +1,39 @@
 -- What the script program promises.
-use Rattle.std.specs.Prelude.{◌≡◌, ◌≢◌, ◌⊎◌, ℕ, zero, suc, Option, Some, None, length, Bool, false, not, ◌&&◌, ◌==◌, List, [], ◌∷◌, codes, ◌<◌, ◌^◌}
-use Rattle.std.specs.Str.{bytes_eq}
+use Rattle.std.specs.Prelude.{◌≡◌, ◌≢◌, ◌≤◌, ◌⊎◌, ℕ, zero, suc, Option, Some, None, length, Bool, true, false, List, [], ◌∷◌, ◌++◌, ◌<◌, ◌^◌}
 use Rattle.std.specs.Io.KnownBytes.{Appends, Consumes}
 use Rattle.kv_base.specs.Map.{Bytes}
 use Rattle.kv_outside.specs.Readings.{next_reading, later_readings, TakesAll}
 use Rattle.kv_outside.specs.Writing.{AppendsFront}
-use Rattle.redis_model.specs.Machine.{State}
 use Rattle.resp_wire.specs.Grammar.{requests, Whole}
+use Rattle.session.specs.Quits.{has_quit, up_to_quit}
+use Rattle.session.specs.Input.{IsOff}
 use Rattle.session.specs.declared.answer.Answer.{Answer}
 use Rattle.session.specs.declared.session.Outcome.{Outcome}
 use Rattle.session.specs.declared.session.Outcome.TheVariants as outcome
 use Rattle.session.specs.Talk.{text}
-use Rattle.session.specs.Session.{AreFirst, EndsAs, IsCaused, Writing}
+use Rattle.session.specs.Session.{AreFirst, EndsAs, IsCaused, Writing, end_line}
+use Rattle.kv_conf.specs.CommandLine.{asked}
+use Rattle.kv_conf.specs.declared.words.Words.{Words}
+use Rattle.kv_conf.specs.declared.words.Words.TheVariants as words
 use Rattle.kv_base.specs.declared.fault.StoreFault.{StoreFault}
 use Rattle.kv_base.specs.declared.fault.StoreFault.TheVariants as fault
 use Rattle.kv_outside.specs.Causes.{Rose}
-use Rattle.kv_outside.specs.Disk.{Disk}
+use Rattle.kv_outside.specs.Disk.{Disk, Leaves}
 use Rattle.session.specs.Answer.{damage_line}
-use Rattle.kv_server.specs.Dialog.{Dialog}
-use Rattle.kv_server.specs.Recover.{Recovered, state_from}
-use Rattle.kv_server.specs.Keeping.{KeptState, state_of_kept, IsKept, log_file, IsStart, IsDamagedLog, FailsToOpen, Keeps, KeepsOrMore}
+use Rattle.redis_model.specs.Machine.{State}
+use Rattle.redis_model.specs.Value.{RedisMap}
+use Rattle.lives_model.specs.Means.{Means}
+use Rattle.log_store.specs.Recover.{Recovered}
+use Rattle.log_store.specs.Keeping.{StoreState as KeptState, IsKept, StandsFor, log_file, IsStart, IsDamagedLog, FailsToOpen, ComesToKeys, Keeps, KeepsOrMore}
+use Rattle.kv_server.specs.Dialog.{StoreState, Dialog}
 
--- a folder: not empty, and no option
-abbrev pub is_folder : Bytes → Bool
-is_folder [] = false
-is_folder (c ∷ rest) = not (c == 45)
+abbrev pub names_script : Option Words → Bool
+names_script (Some (words.Script folder)) = true
+names_script _ = false
 
--- the words `script --dir D`
+-- whether the words ask for `script`, by the grammar of command lines
 abbrev pub is_script : List Bytes → Bool
-is_script (a ∷ b ∷ dir ∷ []) = bytes_eq a (codes "script") && bytes_eq b (codes "--dir") && is_folder dir
-is_script _ = false
+is_script line = names_script (asked line)
 
 abbrev pub status : Outcome → ℕ
 status outcome.Closed = 0
@@ -39,25 +43,41 @@ status outcome.WriteFault = 6
 status outcome.Protocol = 7
 status outcome.Spent = 8
 
--- ---- a session of the machine
+-- ---- a session
 
--- A session with a client who is alone, from one state of the machine to another: the bytes that it took, the requests in
--- them that it answered, each once and in order, at which readings of the clock, and what it wrote.
-pub record Ran (o : Outcome) (old new : State) (ahead ahead' left left' held held' : Option (List ℕ)) (ended ended' : Bool) : Type 0 where
+-- A session with a client: the bytes that it took, the requests in them that it answered, each once and in order, and what
+-- it wrote: the answers, and behind them the line of a fault of the wire.
+pub record Ran (o : Outcome) (left left' held held' : Option (List ℕ)) (ended ended' : Bool) : Type 0 where
   pub taken : Bytes
   pub served : List (List Bytes)
-  pub nows : List ℕ
   pub answers : List Answer
+  pub line : Bytes
   pub took : Consumes left left' taken
-  pub ends : EndsAs o taken served left' ended ended'
+  pub ends : EndsAs o taken served line left' ended ended'
+  pub wrote : Writing o held held' (text answers ++ line)
+
+-- These requests have these answers of the machine, at these readings of the clock, from one state of the store to another.
+pub record Talked (old new : StoreState) (served : List (List Bytes)) (answers : List Answer) (ahead ahead' : Option (List ℕ)) : Type 0 where
+  pub nows : List ℕ
   pub readings : TakesAll ahead ahead' nows
   pub dialog : Dialog old served nows answers new
-  pub wrote : Writing o held held' (text answers)
 
--- A session was served from one store to another, which the log on this disk keeps.
-pub record IsSession (o : Outcome) (old new : KeptState) (disk : Disk) (ahead ahead' left left' held held' : Option (List ℕ)) (ended ended' : Bool) : Type 0 where
-  pub ran : Ran o (state_of_kept old) (state_of_kept new) ahead ahead' left left' held held' ended ended'
+-- a store that stands for a state, where calls to the files have failed so often
+abbrev pub store_of : State → KeptState → ℕ → StoreState
+store_of s kept faults = record { state = s; sequence = kept.sequence; faults = faults }
+
+-- From a state that the store stood for, the answers are the machine's, and the store stands for the state at the end,
+-- which the log on this disk keeps.
+pub record LeadsOn (old new : KeptState) (faults faults' : ℕ) (disk : Disk) (s : State) (served : List (List Bytes)) (answers : List Answer) (ahead ahead' : Option (List ℕ)) : Type 0 where
+  pub state : State
+  pub stands : StandsFor new state
   pub keeps : IsKept disk new
+  pub talked : Talked (store_of s old faults) (store_of state new faults') served answers ahead ahead'
+
+-- A session was served over a store.
+pub record IsSession (o : Outcome) (old new : KeptState) (faults faults' : ℕ) (disk : Disk) (ahead ahead' left left' held held' : Option (List ℕ)) (ended ended' : Bool) : Type 0 where
+  pub ran : Ran o left left' held held' ended ended'
+  pub leads : (s : State) → StandsFor old s → LeadsOn old new faults faults' disk s ran.served ran.answers ahead ahead'
 
 -- ---- what is written, over an input that is told
 
@@ -71,43 +91,58 @@ abbrev pub AreTold : Option (List ℕ) → List ℕ → Type 0
 AreTold None nows = Unit {0}
 AreTold (Some told) nows = nows ≡ first_readings (length nows) told
 
--- What was written are the answers to these requests.
-pub record OutputOf (old new : State) (ahead held held' : Option (List ℕ)) (asked : List (List Bytes)) : Type 0 where
+-- What was written are the answers to these requests, and this line behind them.
+pub record OutputOf (old new : StoreState) (ahead held held' : Option (List ℕ)) (asked : List (List Bytes)) (line : Bytes) : Type 0 where
   pub nows : List ℕ
   pub answers : List Answer
   pub told : AreTold ahead nows
   pub dialog : Dialog old asked nows answers new
-  pub wrote : Appends held held' (text answers)
+  pub wrote : Appends held held' (text answers ++ line)
 
--- A front of the answers to the first of these requests was written.
-pub record FrontOf (old new : State) (ahead held held' : Option (List ℕ)) (asked : List (List Bytes)) : Type 0 where
+-- What was answered, and the line behind the answers, where the sink failed: the first of the requests up to a QUIT, and no
+-- line, or all requests before a fault of the wire, and its line.
+abbrev pub IsUnderWay : Bytes → List (List Bytes) → Bytes → Type 0
+IsUnderWay input served line = ((line ≡ []) × AreFirst served (up_to_quit (requests input).0)) ⊎ IsOff input served line
+
+-- A front of these answers and of the line was written.
+pub record FrontOf (old new : StoreState) (ahead held held' : Option (List ℕ)) (input : Bytes) : Type 0 where
   pub served : List (List Bytes)
-  pub first : AreFirst served asked
+  pub line : Bytes
+  pub under_way : IsUnderWay input served line
   pub nows : List ℕ
   pub answers : List Answer
   pub told : AreTold ahead nows
   pub dialog : Dialog old served nows answers new
-  pub wrote : AppendsFront held held' (text answers)
+  pub wrote : AppendsFront held held' (text answers ++ line)
 
--- All requests of the input were answered, and the input ends behind the last of them.
-abbrev pub IsAnswered : State → State → Option (List ℕ) → Option (List ℕ) → Option (List ℕ) → Option (List ℕ) → Type 0
+-- the input holds a QUIT, or ends between requests
+abbrev pub IsComplete : Bytes → Type 0
+IsComplete input = (has_quit (requests input).0 ≡ true) ⊎ ((requests input).1 ≡ Whole)
+
+-- Without a QUIT before, the input is off the grammar, or ends inside a request.
+abbrev pub EndsBadly : Bytes → Type 0
+EndsBadly input = (has_quit (requests input).0 ≡ false) × ((requests input).1 ≢ Whole)
+
+-- The input was answered to its end, or up to a QUIT and no further. Nothing but the answers was written.
+abbrev pub IsAnswered : StoreState → StoreState → Option (List ℕ) → Option (List ℕ) → Option (List ℕ) → Option (List ℕ) → Type 0
 IsAnswered old new None ahead held held' = Unit {0}
-IsAnswered old new (Some input) ahead held held' = OutputOf old new ahead held held' (requests input).0 × ((requests input).1 ≡ Whole)
+IsAnswered old new (Some input) ahead held held' = OutputOf old new ahead held held' (up_to_quit (requests input).0) [] × IsComplete input
 
--- The sink has a front of the answers to the first requests of the input.
-abbrev pub HasFront : State → State → Option (List ℕ) → Option (List ℕ) → Option (List ℕ) → Option (List ℕ) → Type 0
+-- All requests before a fault of the wire were answered, and behind the answers a line tells its kind and its place. An end
+-- inside a request is told so too.
+abbrev pub IsRejected : StoreState → StoreState → Option (List ℕ) → Option (List ℕ) → Option (List ℕ) → Option (List ℕ) → Type 0
+IsRejected old new None ahead held held' = Unit {0}
+IsRejected old new (Some input) ahead held held' = OutputOf old new ahead held held' (requests input).0 (end_line (length input) (requests input).1) × EndsBadly input
+
+-- The sink has a front of the answers to the input, and of the line behind them.
+abbrev pub HasFront : StoreState → StoreState → Option (List ℕ) → Option (List ℕ) → Option (List ℕ) → Option (List ℕ) → Type 0
 HasFront old new None ahead held held' = Unit {0}
-HasFront old new (Some input) ahead held held' = FrontOf old new ahead held held' (requests input).0
+HasFront old new (Some input) ahead held held' = FrontOf old new ahead held held' input
 
--- The input is off the grammar, or ends inside a request.
-abbrev pub EndsBadly : Option (List ℕ) → Type 0
-EndsBadly None = Unit {0}
-EndsBadly (Some input) = (requests input).1 ≢ Whole
-
--- The input is told, ends between requests, and has fewer bytes than are taken from one source.
+-- The input is told, holds a QUIT or ends between requests, and has fewer bytes than are taken from one source.
 abbrev pub IsWhole : Option (List ℕ) → Type 0
 IsWhole None = ⊥
-IsWhole (Some input) = ((requests input).1 ≡ Whole) × (length input < 2 ^ 40)
+IsWhole (Some input) = IsComplete input × (length input < 2 ^ 40)
 
 -- ---- a run of the program
 
@@ -142,37 +177,71 @@ pub record IsRefused (n : ℕ) (disk : Disk) (files files' : ℕ) (left left' he
   pub wrote : Tells fault held held' sink sink'
   pub untaken : left' ≡ left
 
--- A session was served, from the keys that the log came to. With status 0 the log comes to the keys at the end, at any
--- crash from then on; with another one it may come to them after one SET more.
-pub record IsServed (n : ℕ) (disk disk' : Disk) (files files' : ℕ) (ahead ahead' left left' held held' : Option (List ℕ)) (ended ended' : Bool) (source source' sink sink' : ℕ) : Type 0 where
+-- the store that a log was opened as, whose rows mean these keys, where calls to the files have failed so often
+abbrev pub store_from : Recovered → RedisMap → ℕ → StoreState
+store_from r keys faults = record { state = record { keys = keys; floor = r.floor; pins = [] }; sequence = r.sequence; faults = faults }
+
+-- The log that this disk had was opened, and where its rows mean keys, this holds of the store that begins with them.
+pub record Opened (disk : Disk) (files : ℕ) (Holds : StoreState → Type 0) : Type 0 where
   pub start : Recovered
   pub begins : IsStart disk start
-  pub last : State
+  pub faults : ℕ
+  pub since : files ≤ faults
+  pub holds : (keys : RedisMap) → Means start.rows start.floor keys → Holds (store_from start keys faults)
+
+-- each image of the log that a crash may leave now comes to the keys of this state
+abbrev pub LeavesKeys : Disk → State → Type 0
+LeavesKeys disk s = Leaves disk log_file (ComesToKeys s.floor s.keys)
+
+-- It comes to the rows of a store that stands for this state, or to them after one batch more, which failed.
+pub record LeavesKeysOrMore (disk : Disk) (s : State) : Type 0 where
+  pub store : KeptState
+  pub stands : StandsFor store s
+  pub leaves : Keeps disk store.rows store.written ⊎ KeepsOrMore disk store.rows store.written store.sequence
+
+-- From the store that was opened, the answers are the machine's. With status 0 the log comes to the keys at the end, at any
+-- crash from then on; with another one it may come to them after one batch more.
+pub record Went (n : ℕ) (disk' : Disk) (files' : ℕ) (served : List (List Bytes)) (answers : List Answer) (ahead ahead' : Option (List ℕ)) (first : StoreState) : Type 0 where
+  pub last : StoreState
+  pub until : last.faults ≤ files'
+  pub talked : Talked first last served answers ahead ahead'
+  pub kept : n ≡ 0 → LeavesKeys disk' last.state
+  pub kept_or_more : LeavesKeysOrMore disk' last.state
+
+-- A session was served.
+pub record IsServed (n : ℕ) (disk disk' : Disk) (files files' : ℕ) (ahead ahead' left left' held held' : Option (List ℕ)) (ended ended' : Bool) (source source' sink sink' : ℕ) : Type 0 where
   pub outcome : Outcome
-  pub ran : Ran outcome (state_from start) last ahead ahead' left left' held held' ended ended'
+  pub ran : Ran outcome left left' held held' ended ended'
   pub caused : IsCaused outcome source source' sink sink'
   pub ends : EndsWith outcome n files files'
-  pub kept : n ≡ 0 → Keeps disk' last.keys
-  pub kept_or_more : KeepsOrMore disk' last.keys
+  pub opened : Opened disk files (Went n disk' files' ran.served ran.answers ahead ahead')
 
 abbrev pub IsRun : ℕ → Disk → Disk → ℕ → ℕ → Option (List ℕ) → Option (List ℕ) → Option (List ℕ) → Option (List ℕ) → Option (List ℕ) → Option (List ℕ) → Bool → Bool → ℕ → ℕ → ℕ → ℕ → Type 0
 IsRun n disk disk' files files' ahead ahead' left left' held held' ended ended' source source' sink sink' =
     IsRefused n disk files files' left left' held held' sink sink' ⊎ IsServed n disk disk' files files' ahead ahead' left left' held held' ended ended' source source' sink sink'
 
--- what a good run says: the answers to the whole input, from the keys that the log came to, to those that it comes to
-pub record IsGood (disk disk' : Disk) (left ahead held held' : Option (List ℕ)) : Type 0 where
-  pub start : Recovered
-  pub begins : IsStart disk start
-  pub last : State
-  pub answered : IsAnswered (state_from start) last left ahead held held'
-  pub kept : Keeps disk' last.keys
+-- what a good run says: the answers to the whole input, each fault with its cause, from the keys that the log came to, to
+-- those that it comes to
+pub record IsGood (disk' : Disk) (files' : ℕ) (left ahead held held' : Option (List ℕ)) (first : StoreState) : Type 0 where
+  pub last : StoreState
+  pub until : last.faults ≤ files'
+  pub answered : IsAnswered first last left ahead held held'
+  pub kept : LeavesKeys disk' last.state
 
--- what a run says whose sink failed
-pub record IsFront (disk : Disk) (left ahead held held' : Option (List ℕ)) : Type 0 where
-  pub start : Recovered
-  pub begins : IsStart disk start
-  pub last : State
-  pub front : HasFront (state_from start) last left ahead held held'
+-- What a run says whose input is off the grammar, or ends inside a request: the answers to all requests before, and the
+-- line. The log comes to the keys at the end, or to them after one batch more.
+pub record IsFaultTold (disk' : Disk) (files' : ℕ) (left ahead held held' : Option (List ℕ)) (first : StoreState) : Type 0 where
+  pub last : StoreState
+  pub until : last.faults ≤ files'
+  pub rejected : IsRejected first last left ahead held held'
+  pub kept_or_more : LeavesKeysOrMore disk' last.state
+
+-- What a run says whose sink failed: a front of the answers, and of the line behind them.
+pub record IsFront (disk' : Disk) (files' : ℕ) (left ahead held held' : Option (List ℕ)) (first : StoreState) : Type 0 where
+  pub last : StoreState
+  pub until : last.faults ≤ files'
+  pub front : HasFront first last left ahead held held'
+  pub kept_or_more : LeavesKeysOrMore disk' last.state
 
 -- the log is damaged, which was told
 pub record IsDamageTold (disk : Disk) (held held' : Option (List ℕ)) (sink sink' : ℕ) : Type 0 where

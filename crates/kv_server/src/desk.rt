@@ -1,8 +1,9 @@
-ghost use Rattle.std.specs.Prelude.{◌≡◌};
+ghost use Rattle.std.specs.Prelude.{◌≡◌, ◌≤◌};
+ghost use Rattle.redis_model.specs.Desk.{last_sequence};
 
 use crate::keeper::Keeper;
 use kv_outside::{Clock, Files};
-use redis_model::{Command, Desk, DeskFault, Reply};
+use redis_model::{Cmds, Command, Desk, DeskFault, Reply};
 use std::alloc::Global;
 
 /// The desk of the only caller of a store that is kept by a log. It borrows all that it works on, so that what it leaves
@@ -16,6 +17,8 @@ pub struct LogDesk<'a, P: Keeper<F>, F: Files, C: Clock> {
     last: Option<u64>,
     /// The last sequence that the last call met.
     met: u64,
+    /// How many bytes the body has that the last call planned to write.
+    body: u64,
 }
 
 impl<'a, P: Keeper<F>, F: Files, C: Clock> LogDesk<'a, P, F, C> {
@@ -32,38 +35,41 @@ impl<'a, P: Keeper<F>, F: Files, C: Clock> LogDesk<'a, P, F, C> {
         ensures same_files { result.files.ghost_name ≡ files.entry.ghost_name }
         ensures clock { result.clock.now ≡ clock.old }
         ensures same_clock { result.clock.ghost_name ≡ clock.entry.ghost_name }
+        ensures met { result.met ≡ (P.kept kept.old).sequence }
+        ensures limit { result.met ≤ last_sequence }
+        ensures body { result.body ≡ 0 }
     {
+        let met = kept.last_sequence();
         LogDesk {
             alloc,
             kept,
             files,
             clock,
             last: None,
-            met: 0,
+            met,
+            body: 0,
         }
     }
 }
 
 impl<'a, P: Keeper<F>, F: Files, C: Clock> Desk for LogDesk<'a, P, F, C> {
-    ghost use Rattle.std.specs.Prelude.{[], ◌∷◌, false};
-    ghost use Rattle.kv_server.specs.Alone.{LeadsTo, knows_alone};
-    ghost use Rattle.kv_server.specs.Keeping.{IsKept, state_of_kept};
+    ghost use Rattle.std.specs.Prelude.{[], ◌∷◌, ◌≡◌, IsTrue, Some, false};
+    ghost use Rattle.kv_outside.specs.Disk.{Touches};
+    ghost use Rattle.redis_model.specs.Built.{built};
+    ghost use Rattle.redis_model.specs.Desk.{TakesCall};
+    ghost use Rattle.redis_model.specs.Limits.{IsWithin, IsDue};
+    ghost use Rattle.redis_model.specs.Machine.{State};
+    ghost use Rattle.redis_model.specs.declared.command.Cmds.TheVariants.{One};
+    ghost use Rattle.log_store.specs.Keeping.{IsKept, StandsFor, log_file};
+    ghost use Rattle.log_store.specs.Playing.{IsBeforeOrAfter};
+    ghost use Rattle.kv_server.specs.Alone.{knows_alone};
+    ghost use Rattle.kv_server.specs.Standing.{told_of};
 
-    ghost told = { λ d. record {
-      stands = λ first seen. LeadsTo (state_of_kept (P.kept d.kept.now)) first seen × IsKept (F.disk d.files.now) (P.kept d.kept.now);
-      number = 0;
-      pinned = false;
-      readings = C.readings d.clock.now;
-      last = d.last;
-      faults = F.faults d.files.now;
-      off = λ file place. ⊥;
-      sequence = d.met;
-      body = (P.kept d.kept.now).planned;
-    } };
+    ghost told = { λ d. told_of (P.kept d.kept.now) (F.disk d.files.now) (F.faults d.files.now) (C.readings d.clock.now) d.last d.met d.body };
 
     ghost loans = { λ d. d.kept.ghost_name ∷ d.files.ghost_name ∷ d.clock.ghost_name ∷ [] };
 
-    ghost knows = { λ d first seen stands. knows_alone (state_of_kept (P.kept d.kept.now)) first seen stands.0 };
+    ghost knows = { λ d first seen stands. knows_alone first seen stands.alone };
 
     fn now(&mut self) -> u64 {
         let now = self.clock.now();
@@ -71,10 +77,26 @@ impl<'a, P: Keeper<F>, F: Files, C: Clock> Desk for LogDesk<'a, P, F, C> {
         now
     }
 
-    fn call(&mut self, now: u64, command: Command) -> Result<Reply, DeskFault> {
+    fn call(&mut self, now: u64, command: Command) -> Result<Reply, DeskFault>
+        requires reading { self.old.last ≡ Some now }
+        requires within { IsWithin command }
+        requires due { IsDue command }
+        requires built { IsTrue (built command) }
+        ensures call { TakesCall
+            (told_of (P.kept self.old.kept.now) (F.disk self.old.files.now) (F.faults self.old.files.now) (C.readings self.old.clock.now) self.old.last self.old.met self.old.body)
+            (told_of (P.kept self.new.kept.now) (F.disk self.new.files.now) (F.faults self.new.files.now) (C.readings self.new.clock.now) self.new.last self.new.met self.new.body)
+            now command result }
+        ensures loans { self.new.kept.ghost_name ∷ self.new.files.ghost_name ∷ self.new.clock.ghost_name ∷ []
+            ≡ self.old.kept.ghost_name ∷ self.old.files.ghost_name ∷ self.old.clock.ghost_name ∷ [] }
+        // A crash at any moment leaves the keys before the call, or those after it.
+        ensures any_moment { (P.kept self.old.kept.now).log.unsure ≡ false → IsKept (F.disk self.old.files.now) (P.kept self.old.kept.now) → (s : State) → StandsFor (P.kept self.old.kept.now) s
+            → Touches log_file (F.disk self.old.files.now) (F.disk self.new.files.now) (IsBeforeOrAfter s now (One command)) }
+    {
         self.met = self.kept.last_sequence();
-        let answer = self.kept.carry_out(self.alloc, self.files, now, &command);
-        drop(command);
+        let commands = Cmds::One(command);
+        let answer = self.kept.carry_out(self.alloc, self.files, now, &commands);
+        drop(commands);
+        self.body = self.kept.planned();
         answer
     }
 }

@@ -1,50 +1,67 @@
-ghost use Rattle.std.specs.Prelude.{◌≡◌, ◌≤◌, ◌<◌, ◌^◌, IfOk, IfErr, OnErr, OnOk, IsTrue, min, max};
-ghost use Rattle.redis_model.specs.Built.{built};
+ghost use Rattle.std.specs.Prelude.{◌≡◌, ◌≤◌, ◌<◌, ◌+◌, IfOk, IfErr, OnErr, OnOk, false};
+ghost use Rattle.kv_outside.specs.Disk.{Touches};
 ghost use Rattle.redis_model.specs.Desk.{last_sequence, longest_body};
-ghost use Rattle.redis_model.specs.Limits.{IsWithin};
-ghost use Rattle.kv_server.specs.Store.{Answers};
-ghost use Rattle.kv_server.specs.Keeping.{KeptState, kept_keys, IsKept, AnswerFails};
+ghost use Rattle.redis_model.specs.Machine.{State};
+ghost use Rattle.lives_model.specs.Plans.{AreAsked};
+ghost use Rattle.log_store.specs.Keeping.{StoreState, IsKept, StandsFor, log_file};
+ghost use Rattle.log_store.specs.Playing.{batches, IsBeforeOrAfter, IsBodyOfPlan, IsSized, IsUnchanged, PlayFails, Plays};
+ghost use Rattle.kv_server.specs.Built.{IsBuilt};
 
-use crate::kept::Kept;
+use crate::planner::BuiltPlanner;
 use kv_outside::Files;
-use redis_model::{Command, DeskFault, Reply};
+use log_store::LogStore;
+use redis_model::{Cmds, DeskFault, Reply};
 use std::alloc::Global;
 
 /// What a desk asks of a store that files keep.
 pub trait Keeper<F: Files> {
     /// What contracts see of the store.
-    ghost kept: { Self → KeptState };
+    ghost kept: { Self → StoreState };
 
     /// The sequence of the last batch.
     fn last_sequence(&self) -> u64
-        ensures { result ≡ (kept self.now).sequence };
+        ensures sequence { result ≡ (kept self.now).sequence }
+        ensures limit { result ≤ last_sequence };
 
-    /// Carries out a command at a reading of the clock. After a fault the keys are as they were.
+    /// How many bytes the body has that the last call planned to write: 0 where there was nothing to write.
+    fn planned(&self) -> u64
+        ensures { result ≡ (kept self.now).planned };
+
+    /// Carries out a command at a reading of the clock. After a fault the rows are as they were.
     fn carry_out(
         &mut self,
         alloc: Global,
         files: &mut F,
         now: u64,
-        command: &Command,
+        commands: &Cmds,
     ) -> Result<Reply, DeskFault>
-        requires built { IsTrue (built command.now) }
-        requires within { IsWithin command.now }
-        ensures ok { IfOk result (λ reply. Answers (kept_keys (kept self.old)) command.now reply (kept_keys (kept self.new))) }
-        ensures floor { OnOk result ((kept self.new).floor ≡ max (kept self.old).floor (min now (2 ^ 61))) }
-        ensures keys_stay { OnErr result (kept_keys (kept self.new) ≡ kept_keys (kept self.old)) }
-        ensures floor_stays { OnErr result ((kept self.new).floor ≡ (kept self.old).floor) }
-        ensures kept { IsKept (F.disk files.old) (kept self.old) → IsKept (F.disk files.new) (kept self.new) }
+        requires asked { AreAsked commands.now }
+        requires built { IsBuilt commands.now }
+        ensures ok { IfOk result (λ reply. Plays (kept self.old) (kept self.new) now commands.now reply) }
+        ensures sequence { OnOk result ((kept self.new).sequence ≡ (kept self.old).sequence + batches (kept self.new).planned) }
         ensures fits { OnOk result ((kept self.new).planned ≤ longest_body) }
         ensures room { OnOk result (0 < (kept self.new).planned → (kept self.old).sequence < last_sequence) }
-        ensures fault { IfErr result (λ e. AnswerFails (F.faults files.old) (F.faults files.new) (kept self.old).sequence (kept self.new).planned e) }
-        ensures later { F.faults files.old ≤ F.faults files.new };
+        ensures body { OnOk result ((s : State) → StandsFor (kept self.old) s → IsBodyOfPlan (kept self.old) now s commands.now (kept self.new).planned) }
+        ensures sized { OnErr result ((s : State) → StandsFor (kept self.old) s → IsSized (kept self.old) now s commands.now (kept self.new).planned) }
+        ensures unchanged { OnErr result (IsUnchanged (kept self.old) (kept self.new)) }
+        ensures fault { IfErr result (λ e. PlayFails (F.faults files.old) (F.faults files.new) (kept self.old).sequence (kept self.new).planned e) }
+        ensures later { F.faults files.old ≤ F.faults files.new }
+        ensures kept { IsKept (F.disk files.old) (kept self.old) → IsKept (F.disk files.new) (kept self.new) }
+
+        // A crash at any moment leaves the keys before the call, or those after it.
+        ensures any_moment { (kept self.old).log.unsure ≡ false → IsKept (F.disk files.old) (kept self.old) → (s : State) → StandsFor (kept self.old) s
+            → Touches log_file (F.disk files.old) (F.disk files.new) (IsBeforeOrAfter s now commands.now) };
 }
 
-impl<F: Files> Keeper<F> for Kept<F> {
-    ghost kept = { λ k. k };
+impl<F: Files> Keeper<F> for LogStore<F> {
+    ghost kept = { λ store. store };
 
     fn last_sequence(&self) -> u64 {
         self.sequence()
+    }
+
+    fn planned(&self) -> u64 {
+        LogStore::planned(self)
     }
 
     fn carry_out(
@@ -52,8 +69,8 @@ impl<F: Files> Keeper<F> for Kept<F> {
         alloc: Global,
         files: &mut F,
         now: u64,
-        command: &Command,
+        commands: &Cmds,
     ) -> Result<Reply, DeskFault> {
-        self.answer(alloc, files, now, command)
+        self.play(alloc, files, &BuiltPlanner, now, commands)
     }
 }

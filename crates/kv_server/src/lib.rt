@@ -1,14 +1,13 @@
 //! The programs of the server, as calls over what they meet outside.
 #![tactic(auto)]
 
-mod answer;
 mod desk;
 mod keeper;
-mod kept;
-mod open;
-mod store;
+mod laws;
+mod planner;
 mod top;
 
+pub use laws::a_run_begins_with_what_was_left;
 pub use top::top_script;
 
 #[cfg(test)]

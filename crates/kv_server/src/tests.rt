@@ -1,6 +1,12 @@
 //! Whole runs of `script` over an outside in memory.
 
+mod commands;
+mod deadlines;
+mod keys;
 mod log;
+mod script;
+mod strings;
+mod wire;
 
 use crate::top_script;
 use kv_base::{Blob, FileName};
@@ -133,7 +139,7 @@ fn requests_are_answered_however_they_are_cut(rt: HostRuntime) -> Result<(), Fai
 #[test]
 fn other_words_are_refused_before_any_call(rt: HostRuntime) -> Result<(), Fail> {
     let alloc = rt.alloc();
-    let cases: [&[&str]; 8] = [
+    let cases: [&[&str]; 10] = [
         &[],
         &["script"],
         &["script", "--dir"],
@@ -142,6 +148,8 @@ fn other_words_are_refused_before_any_call(rt: HostRuntime) -> Result<(), Fail> 
         &["script", "--dir", "d", "e"],
         &["script", "--di", "d"],
         &["scripts", "--dir", "d"],
+        &["drill", "--dir", "d"],
+        &["script", "--dir=d", "--dir=d"],
     ];
     let first_calls_fail = Failing {
         reads: &[0],
@@ -157,6 +165,9 @@ fn other_words_are_refused_before_any_call(rt: HostRuntime) -> Result<(), Fail> 
         assert!(rt; outside.files.open(FileName::Segment(1)).is_err());
         assert_eq!(rt; outside.clock.now(), 5);
     }
+    let mut outside = outside_of(alloc, PING, &[], NONE)?;
+    assert_eq!(rt; run(alloc, &["script", "--dir=d"], &mut outside)?, 0);
+    assert_eq!(rt; outside.sink.bytes(), b"+PONG\r\n".as_slice());
     Ok(())
 }
 

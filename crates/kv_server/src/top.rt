@@ -1,38 +1,25 @@
 ghost use Rattle.std.specs.Prelude.{◌≡◌, ◌≢◌, ◌≤◌, ◌⊎◌, ◌↔◌, map, false, string_bytes};
 ghost use Rattle.kv_outside.specs.Causes.{Rose};
+ghost use Rattle.kv_outside.specs.Disk.{Leaves};
 ghost use Rattle.session.specs.Session.{IsCaused};
-ghost use Rattle.kv_server.specs.Keeping.{kept_keys, IsKept, Keeps, KeepsOrMore};
-ghost use Rattle.kv_server.specs.Script.{is_script as is_script_line, is_folder as folder_test, status, opening_status, unclosed_status, EndsWith, Tells, IsSession, IsRun, IsGood, IsFront, IsDamageTold, EndsBadly, IsWhole};
+ghost use Rattle.redis_model.specs.Machine.{State};
+ghost use Rattle.log_store.specs.Keeping.{ComesToKeys, IsKept, Keeps, KeepsOrMore, StandsFor, log_file};
+ghost use Rattle.kv_server.specs.Script.{is_script as is_script_line, status, opening_status, unclosed_status, EndsWith, Tells, IsSession, IsRun, IsGood, IsFaultTold, IsFront, IsDamageTold, IsWhole, Opened};
 
 use crate::desk::LogDesk;
 use crate::keeper::Keeper;
-use crate::kept::Kept;
 use kv_base::StoreFault;
+use kv_conf::{Asked, judge};
 use kv_outside::{Clock, Files, Sink, Source};
+use log_store::LogStore;
 use session::{Outcome, serve_session, write_damaged};
 use std::alloc::Global;
 
-/// Whether the words are `script --dir D`.
+/// Whether the words are those of `script`.
 fn is_script(words: &[String]) -> bool
     ensures { result ≡ is_script_line (map (λ word. string_bytes word) words.now) }
 {
-    match words {
-        [program, option, folder] => {
-            program.as_bytes() == b"script".as_slice()
-                && option.as_bytes() == b"--dir".as_slice()
-                && is_folder(folder.as_bytes())
-        }
-        _ => false,
-    }
-}
-
-fn is_folder(text: &[u8]) -> bool
-    ensures { result ≡ folder_test text.now }
-{
-    match text {
-        [] => false,
-        [first, ..] => *first != b'-',
-    }
+    matches!(judge(words), Some(Asked::Script(_)))
 }
 
 /// The status where the store was not opened. Damage is told in a line.
@@ -51,7 +38,7 @@ fn refuse<K: Sink>(fault: StoreFault, sink: &mut K) -> u8
 }
 
 /// One session from the source to the sink, over an open store.
-fn serve<'a, S: Source, K: Sink, P: Keeper<F>, F: Files, C: Clock>(
+pub(crate) fn serve<'a, S: Source, K: Sink, P: Keeper<F>, F: Files, C: Clock>(
     alloc: Global,
     kept: &'a mut P,
     source: &mut S,
@@ -60,7 +47,7 @@ fn serve<'a, S: Source, K: Sink, P: Keeper<F>, F: Files, C: Clock>(
     clock: &'a mut C,
 ) -> Outcome
     ensures session { IsKept (F.disk files.old) (P.kept kept.old)
-        → IsSession result (P.kept kept.old) (P.kept kept.new) (F.disk files.new) (C.readings clock.old) (C.readings clock.new) (S.left source.old) (S.left source.new) (K.held sink.old) (K.held sink.new) (S.ended source.old) (S.ended source.new) }
+        → IsSession result (P.kept kept.old) (P.kept kept.new) (F.faults files.old) (F.faults files.new) (F.disk files.new) (C.readings clock.old) (C.readings clock.new) (S.left source.old) (S.left source.new) (K.held sink.old) (K.held sink.new) (S.ended source.old) (S.ended source.new) }
     ensures caused { IsCaused result (S.faults source.old) (S.faults source.new) (K.faults sink.old) (K.faults sink.new) }
     ensures later { F.faults files.old ≤ F.faults files.new }
 {
@@ -92,12 +79,15 @@ fn status_unclosed(outcome: Outcome) -> u8
 }
 
 /// Closes the store behind a session.
-fn finish<F: Files>(kept: &mut Kept<F>, files: &mut F, outcome: Outcome) -> u8
+fn finish<F: Files>(store: &mut LogStore<F>, files: &mut F, outcome: Outcome) -> u8
     ensures ends { EndsWith outcome result (F.faults files.old) (F.faults files.new) }
-    ensures kept { result ≡ 0 → IsKept (F.disk files.old) kept.old → Keeps (F.disk files.new) (kept_keys kept.old) }
-    ensures kept_or_more { IsKept (F.disk files.old) kept.old → KeepsOrMore (F.disk files.new) (kept_keys kept.old) }
+    ensures later { F.faults files.old ≤ F.faults files.new }
+    ensures kept { result ≡ 0 → IsKept (F.disk files.old) store.old → (s : State) → StandsFor store.old s
+        → Leaves (F.disk files.new) log_file (ComesToKeys s.floor s.keys) }
+    ensures kept_or_more { IsKept (F.disk files.old) store.old
+        → Keeps (F.disk files.new) store.old.rows store.old.written ⊎ KeepsOrMore (F.disk files.new) store.old.rows store.old.written store.old.sequence }
 {
-    match kept.close(files) {
+    match store.close(files) {
         Ok(()) => status_of(outcome),
         Err(_) => status_unclosed(outcome),
     }
@@ -113,23 +103,23 @@ fn run<S: Source, K: Sink, F: Files, C: Clock>(
 ) -> u8
     ensures { IsRun result (F.disk files.old) (F.disk files.new) (F.faults files.old) (F.faults files.new) (C.readings clock.old) (C.readings clock.new) (S.left source.old) (S.left source.new) (K.held sink.old) (K.held sink.new) (S.ended source.old) (S.ended source.new) (S.faults source.old) (S.faults source.new) (K.faults sink.old) (K.faults sink.new) }
 {
-    let mut kept = match Kept::open(alloc, files) {
-        Ok(kept) => kept,
+    let mut store = match LogStore::open(alloc, files) {
+        Ok(store) => store,
         Err(fault) => return refuse(fault, sink),
     };
-    let outcome = serve(alloc, &mut kept, source, sink, files, clock);
-    finish(&mut kept, files, outcome)
+    let outcome = serve(alloc, &mut store, source, sink, files, clock);
+    finish(&mut store, files, outcome)
 }
 
 /// `kvr script`: one session from the source to the sink, over the store that the log `wal-1` keeps. A SET is answered
 /// when it is on the disk.
 ///
-/// The words are exactly `script`, `--dir` and a folder, which is not empty and does not begin with `-`. The status is
-/// 0 where the input was read to its end between requests, 1 for other words, 2 where a call to the files failed at the
-/// opening or the closing, 3 where the log is damaged, which a line tells with the file and the place, 4 where there was
-/// no memory for the store or a request, 5 and 6 where the source or the sink failed, 7 where the input is off the wire's
-/// grammar or ends inside a request, and 8 where 2^40 bytes were taken. Commands are answered as the Redis command
-/// reference says; the order of refusals and the statuses are this server's own.
+/// The words are `script --dir D` or `script --dir=D`, by the grammar of command lines. The status is 0 where the client quit or the input was read to its end between requests, 1 for other words, 2 where a call to the
+/// files failed at the opening or the closing, 3 where the log is damaged, which a line tells with the file and the
+/// place, 4 where there was no memory for the store or a request, 5 and 6 where the source or the sink failed, 7 where
+/// the input is off the wire's grammar or ends inside a request, which a line tells with the place, and 8 where 2^40
+/// bytes were taken. Nothing behind a `QUIT` is answered. Commands are answered as the Redis command reference says; the
+/// order of refusals and the statuses are this server's own.
 pub fn top_script<S: Source, K: Sink, F: Files, C: Clock>(
     alloc: Global,
     words: &[String],
@@ -145,15 +135,19 @@ pub fn top_script<S: Source, K: Sink, F: Files, C: Clock>(
     ensures run { result ≢ 1
         → IsRun result (F.disk files.old) (F.disk files.new) (F.faults files.old) (F.faults files.new) (C.readings clock.old) (C.readings clock.new) (S.left source.old) (S.left source.new) (K.held sink.old) (K.held sink.new) (S.ended source.old) (S.ended source.new) (S.faults source.old) (S.faults source.new) (K.faults sink.old) (K.faults sink.new) }
 
-    // With status 0 the answers to all requests of a told input were written, from the keys that the log came to, and
-    // the log comes to the keys at the end, whatever crash comes afterwards.
-    ensures good { result ≡ 0 → IsGood (F.disk files.old) (F.disk files.new) (S.left source.old) (C.readings clock.old) (K.held sink.old) (K.held sink.new) }
-    // With status 6 the sink has a front of these answers.
-    ensures front { result ≡ 6 → IsFront (F.disk files.old) (S.left source.old) (C.readings clock.old) (K.held sink.old) (K.held sink.new) }
-    ensures protocol { result ≡ 7 → EndsBadly (S.left source.old) }
+    // With status 0 the answers to all requests of a told input, or to those up to the first QUIT, were written and
+    // nothing else, from the keys that the log came to, and the log comes to the keys at the end, whatever crash comes
+    // afterwards. An answer is a fault only where a call to the files failed in it, where it writes and no sequence is
+    // left, or for want of memory.
+    ensures good { result ≡ 0 → Opened (F.disk files.old) (F.faults files.old) (IsGood (F.disk files.new) (F.faults files.new) (S.left source.old) (C.readings clock.old) (K.held sink.old) (K.held sink.new)) }
+    // With status 7 a told input is off the grammar, or ends inside a request, without a QUIT before. The answers to all
+    // requests before were written, and behind them `-ERR Protocol error: KIND at PLACE`, as the grammar tells it.
+    ensures protocol { result ≡ 7 → Opened (F.disk files.old) (F.faults files.old) (IsFaultTold (F.disk files.new) (F.faults files.new) (S.left source.old) (C.readings clock.old) (K.held sink.old) (K.held sink.new)) }
+    // With status 6 the sink has a front of such answers, and of such a line.
+    ensures front { result ≡ 6 → Opened (F.disk files.old) (F.faults files.old) (IsFront (F.disk files.new) (F.faults files.new) (S.left source.old) (C.readings clock.old) (K.held sink.old) (K.held sink.new)) }
     ensures damaged { result ≡ 3 → IsDamageTold (F.disk files.old) (K.held sink.old) (K.held sink.new) (K.faults sink.old) (K.faults sink.new) }
 
-    // An input that ends between requests is answered, unless a call failed, the log is damaged or memory ran out.
+    // An input that ends between requests, or holds a QUIT, is answered, unless a call failed, the log is damaged or memory ran out.
     ensures whole { (result ≢ 1) → IsWhole (S.left source.old)
         → ¬ Rose (F.faults files.old) (F.faults files.new) → ¬ Rose (S.faults source.old) (S.faults source.new) → ¬ Rose (K.faults sink.old) (K.faults sink.new)
         → (result ≡ 0) ⊎ ((result ≡ 3) ⊎ (result ≡ 4)) }

@@ -1,14 +1,21 @@
 //! `kvr`: the server's programs on the real input, output, clock and files.
 //!
 //! `kvr script --dir D` answers the requests on its standard input on its standard output. The status that it ends with
-//! is that of `kv_server::top_script`.
+//! is that of `kv_server::top_script`, and 1 also where a word is no UTF-8.
 #![tactic(auto)]
 
+ghost use Rattle.std.specs.Prelude.{◌≡◌, ◌≢◌};
+ghost use Rattle.std.specs.declared.io.ErrorKind.TheVariants.{OutOfMemory};
+
 use kv_base::PathText;
+use kv_conf::{Asked, judge};
 use kv_real::{RealFiles, StdIn, StdOut, SystemClock};
 use kv_server::top_script;
 use std::process::ExitCode;
 use std::{env, io};
+
+/// The status of words that name no program.
+const USAGE: u8 = 1;
 
 /// The status where there is no memory for the words.
 const NO_MEMORY: u8 = 4;
@@ -22,10 +29,21 @@ fn words_of(rt: &HostRuntime) -> io::Result<Vec<String>> {
     Ok(words)
 }
 
-/// The folder that the words name: the last of three. `top_script` judges the words.
+/// The status where the words cannot be had: one of them is no UTF-8, or there is no memory.
+fn status_without_words(kind: io::ErrorKind) -> u8
+    ensures memory { kind ≡ OutOfMemory → result ≡ NO_MEMORY }
+    ensures usage { kind ≢ OutOfMemory → result ≡ USAGE }
+{
+    match kind {
+        io::ErrorKind::OutOfMemory => NO_MEMORY,
+        _ => USAGE,
+    }
+}
+
+/// The folder that the words of `script` name. Other words name none, and then no file is called.
 fn folder_of(words: &[String]) -> &str {
-    match words {
-        [_, _, folder] => folder.as_str(),
+    match judge(words) {
+        Some(Asked::Script(folder)) => folder,
         _ => ".",
     }
 }
@@ -33,7 +51,7 @@ fn folder_of(words: &[String]) -> &str {
 fn main(rt: HostRuntime) -> ExitCode {
     let words = match words_of(&rt) {
         Ok(words) => words,
-        Err(_) => return ExitCode::from(NO_MEMORY),
+        Err(error) => return ExitCode::from(status_without_words(error.kind())),
     };
     let folder = match PathText::new(rt.alloc(), folder_of(&words)) {
         Ok(folder) => folder,

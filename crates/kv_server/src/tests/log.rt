@@ -7,14 +7,14 @@ use std::alloc::Global;
 use std::process::Abort;
 use std::test::Fail;
 
-const LOG: FileName = FileName::Segment(1);
+pub const LOG: FileName = FileName::Segment(1);
 
 /// The log after `SET a 1` at the reading 5.
-const ONE_SET: &[u8] = b"\x01\0\0\0\x2A\0\0\0\0\0\0\0\x01\0\0\0\0\0\0\0\x05\0\0\0\x01\
+pub const ONE_SET: &[u8] = b"\x01\0\0\0\x2A\0\0\0\0\0\0\0\x01\0\0\0\0\0\0\0\x05\0\0\0\x01\
     \x01\0\0\0\x03\x6D\0\x61\0\0\0\x0A\x81\0\0\0\0\0\0\0\0\x31\0";
 
 /// A run over these files, which ends well, has written this.
-fn finds(
+pub fn finds(
     rt: &impl Abort,
     alloc: Global,
     files: MemDisk,
@@ -94,6 +94,18 @@ fn a_set_that_failed_is_not_answered_and_mended(rt: HostRuntime) -> Result<(), F
             b"GET a\n",
             b"$1\r\n3\r\n",
         )?;
+    }
+    Ok(())
+}
+
+#[test]
+fn a_set_that_failed_is_not_there_after_a_good_end(rt: HostRuntime) -> Result<(), Fail> {
+    let alloc = rt.alloc();
+    let (status, outside) = left(alloc, b"SET a 1\nSET a 2\n", &[], &[SECOND_GATE])?;
+    assert_eq!(rt; status, 0);
+    for choice in 0..40 {
+        let files = outside.files.crash(choice)?;
+        finds(&rt, alloc, files, b"GET a\n", b"$1\r\n1\r\n")?;
     }
     Ok(())
 }

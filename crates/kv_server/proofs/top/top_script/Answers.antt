@@ -1,4 +1,4 @@
-use Rattle.kv_server.proofs.Running.{good_run, front_run, bad_run, damaged_run, whole_run}
+use Rattle.kv_server.proofs.Running.{good_run, front_run, protocol_run, damaged_run, whole_run}
 use Rattle.kv_server.proofs.top.top_script.Goals as goal
 
 pub returns-clause-good : goal.returns-clause-good
@@ -8,7 +8,7 @@ pub returns-clause-front : goal.returns-clause-front
 returns-clause-front g c = front_run _ _ _ _ _ _ _ _ _ _ _ _ _ _ _ _ _ c.run.ensures
 
 pub returns-clause-protocol : goal.returns-clause-protocol
-returns-clause-protocol g c = bad_run _ _ _ _ _ _ _ _ _ _ _ _ _ _ _ _ _ c.run.ensures
+returns-clause-protocol g c = protocol_run _ _ _ _ _ _ _ _ _ _ _ _ _ _ _ _ _ c.run.ensures
 
 pub returns-clause-damaged : goal.returns-clause-damaged
 returns-clause-damaged g c = damaged_run _ _ _ _ _ _ _ _ _ _ _ _ _ _ _ _ _ c.run.ensures

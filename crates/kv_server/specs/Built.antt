@@ -1,0 +1,10 @@
+-- Which commands the store of the server carries out by now.
+use Rattle.std.specs.Prelude.{IsTrue}
+use Rattle.redis_model.specs.declared.command.Cmds.{Cmds}
+use Rattle.redis_model.specs.declared.command.Cmds.TheVariants.{One, Many}
+use Rattle.redis_model.specs.Built.{built}
+
+-- one command that is built; transactions are not
+abbrev pub IsBuilt : Cmds → Type 0
+IsBuilt (One c) = IsTrue (built c)
+IsBuilt (Many cs) = ⊥

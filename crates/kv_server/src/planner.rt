@@ -1,0 +1,66 @@
+ghost use Rattle.std.specs.Prelude.{◌≡◌, ◌≤◌, IfOk, IfErr, IfSome, IsTrue};
+ghost use Rattle.redis_model.specs.declared.command.Cmds.TheVariants.{One};
+ghost use Rattle.redis_model.specs.Built.{built};
+ghost use Rattle.redis_model.specs.Desk.{last_sequence};
+ghost use Rattle.redis_model.specs.Limits.{IsWithin};
+ghost use Rattle.lives_model.specs.Causes.{IsCause};
+ghost use Rattle.log_store.specs.Playing.{IsPlannedAlways};
+
+use kv_base::StoreFault;
+use lives_model::{Plan, RawView};
+use log_store::StepPlanner;
+use redis_model::{Cmds, Command};
+use std::alloc::Global;
+use string_cmds::{plan_no_keys, plan_string};
+
+/// How many versions a sequence issues.
+const VERSIONS: u64 = 2048;
+
+/// Plans the commands that are carried out by now, one at a time.
+#[derive(Clone, Copy, Drop)]
+pub struct BuiltPlanner;
+
+impl StepPlanner for BuiltPlanner {
+    ghost use Rattle.kv_server.specs.Built.{IsBuilt};
+
+    ghost plans = { IsBuilt };
+
+    fn plan<V: RawView>(
+        &self,
+        alloc: Global,
+        view: &mut V,
+        moment: u64,
+        base: u64,
+        commands: &Cmds,
+    ) -> Result<Plan, StoreFault> {
+        match commands {
+            Cmds::One(command) => plan_one(alloc, view, moment, base, command),
+            Cmds::Many(_) => unreachable!(),
+        }
+    }
+}
+
+/// The plan of one command. It starts no life, so it uses no version.
+fn plan_one<V: RawView>(
+    alloc: Global,
+    view: &mut V,
+    moment: u64,
+    base: u64,
+    command: &Command,
+) -> Result<Plan, StoreFault>
+    requires base { base ≤ last_sequence }
+    requires within { IsWithin command.now }
+    requires built { IsTrue (built command.now) }
+    ensures plan { IfOk result (λ plan. IfSome (V.rows view.old)
+        (λ c. IsPlannedAlways c moment base (One command.now) plan.batch plan.reply plan.until)) }
+    ensures rows { V.rows view.new ≡ V.rows view.old }
+    ensures off { V.off view.new ≡ V.off view.old }
+    ensures loans { V.loans view.new ≡ V.loans view.old }
+    ensures cause { IfErr result (λ fault. IsCause (V.faults view.old) (V.faults view.new) (V.off view.old) fault) }
+    ensures later { V.faults view.old ≤ V.faults view.new }
+{
+    if command.is_keyless() {
+        return Ok(plan_no_keys(alloc, command)?);
+    }
+    plan_string(alloc, view, moment, (base + 1) * VERSIONS, command)
+}
