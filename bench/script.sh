@@ -1,8 +1,9 @@
 #!/usr/bin/env bash
 # Measures `kvr script`: the time, requests a second and peak memory of inputs that write nothing, beside the time that
-# `cat` takes for the same bytes; then SETs, which are on the disk before they are answered, beside a loop that writes and
-# syncs the same bytes; then the opening of a log. Each is also run at half and at a quarter of its size, to show that
-# nothing grows faster than its input.
+# `cat` takes for the same bytes; a body that arrives a byte at a time; then commands that write, which are on the disk
+# before they are answered, beside a loop that writes and syncs as many bytes, with the system calls of a command; then the
+# opening of a log. Each is also run at half and at a quarter of its size, to show that nothing grows faster than its
+# input.
 #
 #     bench/script.sh
 #
@@ -39,6 +40,27 @@ elif kind == "sets":
     value = b"v" * 100
     for i in range(count):
         out.write(request(b"SET", b"key:%d" % (i * 7919 % 1000), value))
+elif kind == "expiring":
+    value = b"v" * 100
+    for i in range(count):
+        out.write(request(b"SET", b"key:%d" % (i * 7919 % 1000), value, b"EX", b"3600"))
+elif kind == "incrs":
+    for i in range(count):
+        out.write(request(b"INCR", b"counter:%d" % (i * 7919 % 1000)))
+elif kind == "msets":
+    for i in range(count):
+        pairs = [(b"key:%d" % ((10 * i + j) * 7919 % 1000), b"v" * 10) for j in range(10)]
+        out.write(request(b"MSET", *[word for pair in pairs for word in pair]))
+elif kind == "filling":
+    # the keys that `dels` takes away
+    for i in range(0, count, 1000):
+        out.write(request(b"MSET", *[word for j in range(i, min(count, i + 1000)) for word in (b"key:%d" % j, b"v")]))
+elif kind == "dels":
+    for i in range(count):
+        out.write(request(b"DEL", b"key:%d" % i))
+elif kind == "empty":
+    # one request of `count` words of nothing: an unknown command
+    out.write(request(*[b""] * count))
 elif kind == "large":
     # one request of `count` bytes or little less: an unknown command of words of 1,000,000 bytes
     words = max(1, count // 1_000_000)
@@ -101,28 +123,70 @@ measure "1,000,000 inline PINGs" inline 1000000 1000000
 measure "50,000 GETs" gets 50000 50000
 measure "100,000 GETs" gets 100000 100000
 measure "200,000 GETs" gets 200000 200000
+measure "one request of 16,384 empty words" empty 16384 1
+measure "one request of 32,768 empty words" empty 32768 1
+measure "one request of 65,536 empty words" empty 65536 1
 measure "one request of 4 MB" large 4000000 1
 measure "one request of 8 MB" large 8000000 1
 measure "one request of 16 MB" large 16000000 1
 
-# durable COUNT: SETs of 100-byte values, and a loop that does the same writes and syncs
+# trickle COUNT: one request whose body of so many bytes arrives a byte at a time
+trickle() {
+    python3 - "$1" "$program" "$work/empty" <<'PYTHON'
+import os
+import subprocess
+import sys
+import time
+
+count, program, folder = int(sys.argv[1]), *sys.argv[2:]
+front = b"*2\r\n$4\r\nECHO\r\n$%d\r\n" % count
+
+
+# How long a program takes that is fed so.
+def seconds(words):
+    process = subprocess.Popen(words, stdin=subprocess.PIPE, stdout=subprocess.DEVNULL)
+    pipe = process.stdin.fileno()
+    begin = time.monotonic()
+    os.write(pipe, front)
+    for _ in range(count):
+        os.write(pipe, b"b")
+    os.write(pipe, b"\r\n")
+    process.stdin.close()
+    status = process.wait()
+    took = time.monotonic() - begin
+    if status != 0:
+        sys.exit("%s ended with status %d" % (words[0], status))
+    return took
+
+
+print("%-34s %9.3f s   cat %.3f s" % ("a body of %d bytes, byte by byte" % count, seconds([program, "script", "--dir", folder]), seconds(["cat"])))
+PYTHON
+}
+
+trickle 250000
+trickle 500000
+trickle 1000000
+
+# durable NAME KIND COUNT [BEFORE]: commands that write, and a loop that makes the same writes and syncs. Requests of the kind
+# BEFORE are carried out first, and not counted.
 durable() {
-    make_input sets "$1" > "$work/input"
-    python3 - "$1" "$work/input" "$program" "$work" <<'PYTHON'
+    make_input "$2" "$3" > "$work/input"
+    : > "$work/before"
+    if [ $# -gt 3 ]; then make_input "$4" "$3" > "$work/before"; fi
+    python3 - "$3 $1" "$3" "$work/input" "$work/before" "$program" "$work" <<'PYTHON'
 import os
 import shutil
 import subprocess
 import sys
 import time
 
-count, path, program, work = int(sys.argv[1]), *sys.argv[2:]
+name, count, path, before, program, work = sys.argv[1], int(sys.argv[2]), *sys.argv[3:]
 folder = os.path.join(work, "store")
+log = os.path.join(folder, "wal-1")
 words = [program, "script", "--dir", folder]
 
 
-def run(words):
-    shutil.rmtree(folder, ignore_errors=True)
-    os.mkdir(folder)
+def call(words, path):
     with open(path, "rb") as source, open(os.devnull, "wb") as sink:
         begin = time.monotonic()
         status = subprocess.call(words, stdin=source, stdout=sink, stderr=subprocess.DEVNULL)
@@ -132,19 +196,29 @@ def run(words):
     return took
 
 
+# How long the commands take over a new store, and how many bytes they add to its log.
+def run(words):
+    shutil.rmtree(folder, ignore_errors=True)
+    os.mkdir(folder)
+    call([program, "script", "--dir", folder], before)
+    old = os.path.getsize(log)
+    took = call(words, path)
+    return took, os.path.getsize(log) - old
+
+
 # Two writes and two syncs for each record.
 def loop(size):
-    log = os.open(os.path.join(folder, "loop"), os.O_RDWR | os.O_CREAT)
+    file = os.open(os.path.join(folder, "loop"), os.O_RDWR | os.O_CREAT)
     record, at = b"r" * (size - 1), 0
     begin = time.monotonic()
     for _ in range(count):
-        os.pwrite(log, record, at + 1)
-        os.fdatasync(log)
-        os.pwrite(log, b"1", at)
-        os.fdatasync(log)
+        os.pwrite(file, record, at + 1)
+        os.fdatasync(file)
+        os.pwrite(file, b"1", at)
+        os.fdatasync(file)
         at += size
     took = time.monotonic() - begin
-    os.close(log)
+    os.close(file)
     return took
 
 
@@ -157,15 +231,19 @@ def calls():
     return ", ".join("%s %.3f" % (l[-1], int(l[3]) / count) for l in lines if len(l) >= 5 and l[3].isdigit() and l[-1] != "total")
 
 
-ours = run(words)
-size = os.path.getsize(os.path.join(folder, "wal-1")) // count
-print("%-34s %9.3f s %12.0f SETs/s   %d bytes a SET   loop %.3f s   calls a SET: %s" % ("%d durable SETs" % count, ours, count / ours, size, loop(size), calls()))
+ours, added = run(words)
+size = added // count
+print("%-34s %9.3f s %12.0f a second   %d bytes each   loop %.3f s   calls each: %s" % (name, ours, count / ours, size, loop(size), calls()))
 PYTHON
 }
 
-durable 500
-durable 1000
-durable 2000
+durable "durable SETs" sets 500
+durable "durable SETs" sets 1000
+durable "durable SETs" sets 2000
+durable "durable SETs with a deadline" expiring 1000
+durable "durable INCRs" incrs 1000
+durable "durable MSETs of 10 keys" msets 1000
+durable "durable DELs" dels 1000 filling
 
 # opening COUNT: a log of so many small SETs is opened, and nothing asked
 opening() {
