@@ -1,5 +1,5 @@
 //! What every crate speaks of: byte strings, keys, lists, the names of files, numbers as texts, raw keys and the values
-//! that a store keeps under them, and want of memory.
+//! that a store keeps under them, rows, and want of memory.
 //!
 //! `specs/Map.antt` has finite maps from byte strings and finite sets of them, `specs/Number.antt` whole numbers as
 //! texts, and `specs/Score.antt` scores as texts. `specs/Fields.antt` has numbers and texts as files have them,
@@ -21,6 +21,7 @@ mod name;
 mod path_text;
 mod raw;
 mod raw_ref;
+mod row;
 mod score;
 mod unsigned;
 
@@ -41,6 +42,7 @@ pub use name::{FileName, TableId};
 pub use path_text::PathText;
 pub use raw::{decode_raw, is_raw};
 pub use raw_ref::{MetaRef, RawRef};
+pub use row::{Row, RowRef};
 pub use score::read_score;
 pub use sqlite_items::Items;
 pub use unsigned::read_u64;

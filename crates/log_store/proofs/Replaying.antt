@@ -17,7 +17,7 @@ use Rattle.wal_log.specs.Segments.{is_next, record_behind, with_first, records_f
 use Rattle.wal_log.specs.SegmentLaws.{last_at}
 use Rattle.wal_log.specs.declared.segment.Found.{Found}
 use Rattle.redis_model.specs.Desk.{last_sequence}
-use Rattle.row_model.specs.declared.row.Row.{Row}
+use Rattle.kv_base.specs.declared.row.Row.{Row}
 use Rattle.row_model.specs.Replays.{do_rise, last_from, rise_above, rows_after}
 use Rattle.row_model.specs.Rows.{are_upto, at}
 use Rattle.log_store.specs.Recover.{Recovered, nothing, with_record, with_records, by_records, recovered_by}

@@ -12,5 +12,5 @@ mod table;
 mod tests;
 mod weight;
 
-pub use row_model::RowRef;
+pub use kv_base::RowRef;
 pub use table::MemTable;

@@ -6,7 +6,7 @@ ghost use Rattle.batch_codec.specs.Batches.{after};
 ghost use Rattle.row_model.specs.Rows.{are_below, are_row_texts, are_upto, at as map_at, batch_rows, seen_at};
 ghost use Rattle.row_model.specs.Replays.{do_rise, last_from, replayed, rows_after};
 ghost use Rattle.row_model.specs.RowOrder.{is_below, is_ordered, merged};
-ghost use Rattle.row_model.specs.RowRefs.{row_seen};
+ghost use Rattle.kv_base.specs.RowRefs.{row_seen};
 ghost use Rattle.mem_table.specs.Shared.{rows_of};
 ghost use Rattle.mem_table.specs.Weights.{rows_weight};
 
@@ -15,8 +15,7 @@ use crate::place::{first_from, place};
 use crate::replay::replay_rows;
 use crate::weight::weight;
 use batch_codec::{Batch, Record};
-use kv_base::NoMem;
-use row_model::{Row, RowRef};
+use kv_base::{NoMem, Row, RowRef};
 use std::alloc::Global;
 use std::marker::Model;
 use std::sync::Arc;
@@ -32,7 +31,7 @@ pub struct MemTable {
 
 impl Model for MemTable {
     ghost use Rattle.std.specs.Prelude.{◌≡◌, ◌-◌, ◌^◌, List, IsTrue, min};
-    ghost use Rattle.row_model.specs.declared.row.Row.{Row};
+    ghost use Rattle.kv_base.specs.declared.row.Row.{Row};
     ghost use Rattle.row_model.specs.Rows.{are_row_texts};
     ghost use Rattle.row_model.specs.RowOrder.{is_ordered};
     ghost use Rattle.mem_table.specs.Shared.{rows_in};

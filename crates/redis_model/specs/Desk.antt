@@ -1,28 +1,22 @@
--- What a desk answers to a call, and what its caller sees of the history.
-use Rattle.std.specs.Prelude.{◌≡◌, ◌≢◌, ◌≤◌, ◌<◌, ◌-◌, ◌^◌, ◌⊎◌, ℕ, Bool, true, false, if◌then◌else◌, is_some, IsFalse, OnErr, List, [], ◌∷◌, ◌++◌, map, Some, Result, Ok, Err}
+-- What a desk answers to what it is asked, and what its caller sees of the history.
+use Rattle.std.specs.Prelude.{◌≡◌, ◌≢◌, ◌≤◌, ◌<◌, ◌-◌, ◌^◌, ◌⊎◌, ℕ, Bool, true, false, if◌then◌else◌, is_ok, is_some, IsSome, IsFalse, OnErr, List, [], ◌∷◌, ◌++◌, Option, Some, None, Result, Ok, Err}
 use Rattle.kv_outside.specs.Causes.{Rose}
 use Rattle.kv_outside.specs.Readings as readings
 use Rattle.redis_model.specs.declared.reply.Reply.{Reply}
-use Rattle.redis_model.specs.declared.command.Command.{Command}
-use Rattle.redis_model.specs.declared.command.Cmds.TheVariants.{One}
 use Rattle.redis_model.specs.declared.history.Step.{Step}
-use Rattle.redis_model.specs.declared.history.Step.TheVariants.{Tick, Call, PinnedRead, PinnedRefused, Job}
+use Rattle.redis_model.specs.declared.history.Step.TheVariants.{Tick, Job}
 use Rattle.redis_model.specs.declared.history.Place.{Place}
 use Rattle.redis_model.specs.declared.history.JobMark.TheVariants.{Begun, Done, Dropped}
 use Rattle.redis_model.specs.declared.desk.DeskFault.{DeskFault}
 use Rattle.redis_model.specs.declared.desk.DeskFault.TheVariants as fault
 use Rattle.redis_model.specs.About.{writes}
+use Rattle.redis_model.specs.Asks.{Ask, Call, entry_of, may_write, pinned_by}
 use Rattle.redis_model.specs.DeskState.{DeskState}
-use Rattle.redis_model.specs.Machine.{State, pin_of, step, run}
+use Rattle.redis_model.specs.Machine.{State, pin_of, step}
 use Rattle.redis_model.specs.Legal.{IsLegal, calls_of, jobs_of}
+use Rattle.redis_model.specs.Places.{Opening, steps_of, state_at}
 
--- ---- places
-
-abbrev pub steps_of : List Place → List Step
-steps_of places = map (λ p. p.what) places
-
-abbrev pub state_at : State → List Place → State
-state_at first seen = run first (steps_of seen)
+-- ---- what a caller has seen
 
 -- the own entries of a caller, but its jobs
 abbrev pub mine : ℕ → List Place → List Step
@@ -36,12 +30,7 @@ pub record IsSeen (caller : ℕ) (pinned : Bool) (first : State) (seen : List Pl
   pub legal : IsLegal first (steps_of seen)
   pub pin : has_pin (state_at first seen) caller ≡ pinned
 
--- ---- a call in the history
-
--- the entry of a command, of a caller with a pin or without one
-abbrev pub entry_of : Bool → ℕ → ℕ → Command → Step
-entry_of false now caller c = Call now caller c
-entry_of true now caller c = if writes c then PinnedRefused now caller (One c) else PinnedRead now caller c
+-- ---- an answer in the history
 
 -- each job that begins ends before the caller's next one
 abbrev pub AreEnded : List Step → Type 0
@@ -62,34 +51,39 @@ pub record Follows (caller : ℕ) (seen after : List Place) : Type 0 where
 abbrev pub IsTicked : ℕ → ℕ → List Step → Type 0
 IsTicked caller now es = (es ≡ []) ⊎ (es ≡ Tick now caller ∷ [])
 
--- The call stands in the history once. It has before it all that was seen, entries of others, and at most a tick of its
--- own. Behind it may come jobs of its own and entries of others. The reply is the machine's there.
-pub record Entered (caller : ℕ) (first : State) (seen : List Place) (now : ℕ) (c : Command) (reply : Reply) (after : List Place) : Type 0 where
+-- What was asked stands in the history once. It has before it all that was seen, entries of others, and at most a tick of
+-- the caller's own. Behind it may come jobs of its own and entries of others. The reply is the machine's there.
+pub record Entered (caller : ℕ) (first : State) (seen : List Place) (now : ℕ) (ask : Ask) (reply : Reply) (after : List Place) : Type 0 where
   pub before : List Place
   pub own : Place
   pub behind : List Place
   pub grown : after ≡ (seen ++ before) ++ own ∷ behind
   pub ticked : IsTicked caller now (mine caller before)
   pub idle : jobs_of caller (steps_of before) ≡ []
-  pub is : own.what ≡ entry_of (has_pin (state_at first seen) caller) now caller c
+  pub is : own.what ≡ entry_of (has_pin (state_at first seen) caller) now caller ask
   pub once : mine caller behind ≡ []
   pub answered : (step (state_at first (seen ++ before)) own.what).0 ≡ Some reply
 
--- nothing, or an entry that changes no key: a tick, or that of a command that only reads, whose reply was withheld
-abbrev pub IsWithheld : ℕ → Bool → ℕ → Command → List Step → Type 0
-IsWithheld caller pinned now c [] = Unit {0}
-IsWithheld caller pinned now c (e ∷ []) = (e ≡ Tick now caller) ⊎ ((e ≡ entry_of pinned now caller c) × IsFalse (writes c))
-IsWithheld caller pinned now c (e ∷ f ∷ es) = ⊥
+-- one command that only reads
+abbrev pub IsReading : Ask → Type 0
+IsReading (Call c) = IsFalse (writes c)
+IsReading _ = ⊥
 
--- A call that failed has at most one entry, which changes no key.
-pub record Withheld (caller : ℕ) (first : State) (seen : List Place) (now : ℕ) (c : Command) (after : List Place) : Type 0 where
+-- nothing, or an entry that changes no key: a tick, or that of a command that only reads, whose reply was withheld
+abbrev pub IsWithheld : ℕ → Bool → ℕ → Ask → List Step → Type 0
+IsWithheld caller pinned now ask [] = Unit {0}
+IsWithheld caller pinned now ask (e ∷ []) = (e ≡ Tick now caller) ⊎ ((e ≡ entry_of pinned now caller ask) × IsReading ask)
+IsWithheld caller pinned now ask (e ∷ f ∷ es) = ⊥
+
+-- What failed has at most one entry, which changes no key.
+pub record Withheld (caller : ℕ) (first : State) (seen : List Place) (now : ℕ) (ask : Ask) (after : List Place) : Type 0 where
   pub added : List Place
   pub grown : after ≡ seen ++ added
-  pub own : IsWithheld caller (has_pin (state_at first seen) caller) now c (mine caller added)
+  pub own : IsWithheld caller (has_pin (state_at first seen) caller) now ask (mine caller added)
 
-abbrev pub Leaves : ℕ → State → List Place → ℕ → Command → Result Reply DeskFault → List Place → Type 0
-Leaves caller first seen now c (Ok reply) after = Entered caller first seen now c reply after
-Leaves caller first seen now c (Err e) after = Withheld caller first seen now c after
+abbrev pub Leaves : ℕ → State → List Place → ℕ → Ask → Result Reply DeskFault → List Place → Type 0
+Leaves caller first seen now ask (Ok reply) after = Entered caller first seen now ask reply after
+Leaves caller first seen now ask (Err e) after = Withheld caller first seen now ask after
 
 -- ---- why a call fails
 
@@ -101,7 +95,7 @@ longest_body = 2 ^ 32 - 1
 
 -- A fault of the files comes where the count rose, damage at a place that is off its grammar. No sequence is left just
 -- where there is something to write at the last one, and what is to be written is too big just where it is longer than
--- a record can be.
+-- a record can be. A job is busy where another of its kind was open.
 abbrev pub HasReason : ℕ → DeskState → Result Reply DeskFault → Type 0
 HasReason before desk (Ok reply) = (desk.body ≤ longest_body) × (0 < desk.body → desk.sequence < last_sequence)
 HasReason before desk (Err fault.IoError) = Rose before desk.faults
@@ -109,29 +103,42 @@ HasReason before desk (Err fault.NoMem) = Unit {0}
 HasReason before desk (Err (fault.Damaged file place)) = desk.off file place
 HasReason before desk (Err fault.SeqFull) = (0 < desk.body) × (desk.sequence ≡ last_sequence)
 HasReason before desk (Err fault.TooBig) = (longest_body < desk.body) × (desk.sequence ≢ last_sequence)
-HasReason before desk (Err fault.Busy) = ⊥
+HasReason before desk (Err fault.Busy) = IsSome desk.met
 
 -- ---- the calls
 
--- a reading was taken, and all else is as it was
+-- a reading was taken, and all else is as it was but what is told of the last call
 pub record TakesReading (old new : DeskState) (now : ℕ) : Type 0 where
   pub reading : readings.TakesReading old.readings new.readings now
   pub last : new.last ≡ Some now
-  pub stands : (first : State) (seen : List Place) → old.stands first seen → new.stands first seen
+  pub stands : (opening : Opening) (seen : List Place) → old.stands opening seen → new.stands opening seen
   pub number : new.number ≡ old.number
   pub pinned : new.pinned ≡ old.pinned
   pub faults : new.faults ≡ old.faults
 
--- A command was answered: where the desk stood for a history, it stands for one that goes on by the call, and one that only
--- reads plans nothing to write. What a call that failed planned was planned for its command.
-pub record TakesCall (old new : DeskState) (now : ℕ) (c : Command) (result : Result Reply DeskFault) : Type 0 where
-  pub history : (first : State) (seen : List Place) → old.stands first seen
-      → (after : List Place) × new.stands first after × Follows old.number seen after × Leaves old.number first seen now c result after
+-- the fault of an answer, if it is one
+abbrev pub fault_of : Result Reply DeskFault → Option DeskFault
+fault_of (Ok reply) = None
+fault_of (Err e) = Some e
+
+-- whether a key may change, of a caller with a pin or without one
+abbrev pub can_write : Bool → Ask → Bool
+can_write true ask = false
+can_write false ask = may_write ask
+
+-- What was asked was answered: where the desk stood for a history, it stands for one that goes on by that, and what
+-- changes no key plans nothing to write. What a call that failed planned was planned for what was asked. The desk tells
+-- its fault, and no job was asked for.
+pub record TakesCall (old new : DeskState) (now : ℕ) (ask : Ask) (result : Result Reply DeskFault) : Type 0 where
+  pub history : (opening : Opening) (seen : List Place) → old.stands opening seen
+      → (after : List Place) × new.stands opening after × Follows old.number seen after × Leaves old.number opening.state seen now ask result after
   pub reason : HasReason old.faults new result
-  pub idle : (first : State) (seen : List Place) → old.stands first seen → IsFalse (writes c) → new.body ≡ 0
-  pub planned : OnErr result (new.planned now c)
+  pub idle : (opening : Opening) (seen : List Place) → old.stands opening seen → IsFalse (can_write old.pinned ask) → new.body ≡ 0
+  pub planned : OnErr result (new.planned now ask)
+  pub fault : new.fault ≡ fault_of result
+  pub met : new.met ≡ None
   pub later : old.faults ≤ new.faults
   pub readings : new.readings ≡ old.readings
   pub last : new.last ≡ old.last
   pub number : new.number ≡ old.number
-  pub pinned : new.pinned ≡ old.pinned
+  pub pinned : new.pinned ≡ (if is_ok result then pinned_by ask old.pinned else old.pinned)

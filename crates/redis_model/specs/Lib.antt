@@ -11,6 +11,8 @@ pub mod Machine
 pub mod Render
 pub mod RenderLaws
 pub mod About
+pub mod Asks
+pub mod Places
 pub mod Limits
 pub mod LimitsLaws
 pub mod Legal

@@ -1,10 +1,11 @@
 ghost use base.Fml.{GName};
 ghost use Rattle.std.specs.Prelude.{◌≡◌, IsTrue, List, Some};
+ghost use Rattle.redis_model.specs.Asks.{Call};
 ghost use Rattle.redis_model.specs.Built.{built};
 ghost use Rattle.redis_model.specs.Desk.{IsSeen, TakesReading, TakesCall};
 ghost use Rattle.redis_model.specs.DeskState.{DeskState};
 ghost use Rattle.redis_model.specs.Limits.{IsWithin, IsDue};
-ghost use Rattle.redis_model.specs.Machine.{State};
+ghost use Rattle.redis_model.specs.Places.{Opening};
 ghost use Rattle.redis_model.specs.declared.history.Place.{Place};
 
 use crate::command::Command;
@@ -53,9 +54,10 @@ impl From<Failed> for DeskFault {
 
 /// Where one caller asks a store. Others may ask the same store at desks of their own.
 ///
-/// A desk stands for a start state of the machine and for a list of places: the history as far as its caller has seen
-/// it, in which its own calls stand once each, in order, among those of others. What it stands for is a relation, and
-/// each clause holds of every start state and history that it stood for when the call began.
+/// A desk stands for an opening (a state of the machine, and the sequence of its last batch) and for a list of places:
+/// the history since, as far as its caller has seen it, in which its own calls stand once each, in order, among those of
+/// others. What it stands for is a relation, and each clause holds of every opening and history that it stood for when
+/// the call began.
 pub trait Desk {
     /// What is told of the desk.
     ghost told: { Self → DeskState };
@@ -74,9 +76,10 @@ pub trait Desk {
         requires within { IsWithin command }
         requires due { IsDue command }
         requires built { IsTrue (built command) }
-        ensures call { TakesCall (told self.old) (told self.new) now command result }
+        ensures call { TakesCall (told self.old) (told self.new) now (Call command) result }
         ensures loans { loans self.new ≡ loans self.old };
 
     /// Each history that it stands for is legal, and it knows whether its caller has a pin.
-    ghost knows: { (desk : Self) (first : State) (seen : List Place) → (told desk).stands first seen → IsSeen (told desk).number (told desk).pinned first seen };
+    ghost knows: { (desk : Self) (opening : Opening) (seen : List Place) → (told desk).stands opening seen
+        → IsSeen (told desk).number (told desk).pinned opening.state seen };
 }

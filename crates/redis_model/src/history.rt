@@ -1,4 +1,6 @@
 use crate::command::{Cmds, Command, Commands};
+use crate::unbuilt::{UnbuiltMap, UnbuiltRows};
+use kv_base::{Items, TableId};
 
 /// What a background job does.
 #[derive(Clone, Copy, Debug, PartialEq, Eq)]
@@ -48,13 +50,73 @@ pub enum Step {
     Job(u32, JobKind, JobMark),
 }
 
+/// How many batches were counted on a stripe of keys when a call took its view.
+#[derive(Clone, Copy, Debug, PartialEq, Eq)]
+pub struct Mark {
+    /// The number of the stripe, below 16.
+    pub stripe: u8,
+    pub count: u64,
+}
+
+/// The marks of stripes.
+pub type Marks = Items<Mark>;
+
+/// What a writing call saw before its plan.
+#[derive(Drop)]
+pub struct ReadView {
+    /// The sequence of the last batch.
+    pub seq: u64,
+    /// The moment of the call, in milliseconds.
+    pub moment: u64,
+    /// How many batches were counted on the stripes of its keys.
+    pub marks: Marks,
+    /// The rows at that sequence.
+    pub rows: UnbuiltMap,
+}
+
+/// What a background job was asked for.
+#[derive(Clone, Copy, Debug, PartialEq, Eq)]
+pub enum JobAsked {
+    /// A flush: of a memtable that is due, or forced, of what the memtable holds.
+    Flush { forced: bool },
+    /// A compaction of the level of this number, or of one that is due.
+    Compact { level: Option<u8> },
+}
+
+/// The names of tables.
+pub type TableIds = Items<TableId>;
+
+/// What a background job that began has to do.
+#[derive(Drop)]
+pub struct Task {
+    /// The number of the job's run, which stands in the names of its tables.
+    pub run: u64,
+    /// The level that gets its tables.
+    pub level: u8,
+    /// The tables that go.
+    pub gone: TableIds,
+    /// The rows that it writes.
+    pub rows: UnbuiltRows,
+}
+
+/// How many levels of tables there are.
+pub const LEVELS: usize = 5;
+
 /// What is known of an entry besides.
 #[derive(Drop)]
 pub enum Note {
     /// Nothing.
     Bare,
-    /// The sequence of the batch that a call or a transaction appended to the log.
-    Batch(u64),
+    /// A tick has what its call saw.
+    Saw(ReadView),
+    /// A call or a transaction that wrote has the sequence of its batch.
+    Appended(u64),
+    /// A job that began has what was asked for and its task.
+    Began(JobAsked, Task),
+    /// A job that found nothing to do, or another one open, has what was asked for.
+    Found(JobAsked),
+    /// Counting has the number of tables of each level.
+    Counted([u64; LEVELS]),
 }
 
 /// A place of a history: an entry, and what is known of it besides.

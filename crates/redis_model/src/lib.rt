@@ -15,13 +15,16 @@ mod history;
 mod laws;
 mod reply;
 mod stripes;
+mod unbuilt;
 mod upkeep;
 
 pub use command::{
     Bound, Cmds, Command, Commands, End, Expiry, Limit, MAX_READING, Scores, When, ZAddHow,
 };
 pub use desk::{Desk, DeskFault};
-pub use history::{JobKind, JobMark, Note, Place, Step};
+pub use history::{
+    JobAsked, JobKind, JobMark, LEVELS, Mark, Marks, Note, Place, ReadView, Step, TableIds, Task,
+};
 pub use laws::{
     due_commands_stay_within_limits, moments_never_fall, reading_changes_nothing,
     reading_touches_nothing, replies_have_one_rendering, sets_of_the_same_stripes_are_equal,
@@ -30,4 +33,5 @@ pub use laws::{
 };
 pub use reply::{Replies, Reply, ReplyError, TypeWord};
 pub use stripes::{STRIPES, Stripes};
+pub use unbuilt::{UnbuiltMap, UnbuiltRows};
 pub use upkeep::Upkeep;

@@ -5,6 +5,5 @@ pub mod RowLaws
 pub mod RowMaps
 pub mod RowOrder
 pub mod RowOrderLaws
-pub mod RowRefs
 pub mod RowSearch
 pub mod Rows

@@ -8,7 +8,7 @@ use Rattle.std.specs.Cmp.{tied_itself}
 use Rattle.std.specs.Cmp.Lexicographic.{nat_list_cmp_total}
 use Rattle.std.proofs.lemmas.Bool.Decides.{nat_tests}
 use Rattle.kv_base.specs.Map.{Bytes, byte_cmp}
-use Rattle.row_model.specs.declared.row.Row.{Row}
+use Rattle.kv_base.specs.declared.row.Row.{Row}
 use Rattle.row_model.specs.Rows.{shown, newer, seen_at}
 use Rattle.row_model.specs.RowOrder.{row_cmp, placed, merged}
 use Rattle.row_model.specs.RowLaws.{newer_none, newer_assoc, shown_is}

@@ -15,7 +15,7 @@ use Rattle.kv_base.specs.Map.{Bytes, Map, empty, get, get-empty, same_map}
 use Rattle.batch_codec.specs.Batches.{Batch, after, over}
 use Rattle.batch_codec.specs.BatchLaws.{get-after}
 use Rattle.batch_codec.specs.declared.record.Record.{Record}
-use Rattle.row_model.specs.declared.row.Row.{Row}
+use Rattle.kv_base.specs.declared.row.Row.{Row}
 use Rattle.row_model.specs.Rows.{are_upto, are_below, seen_at, at, batch_rows, HaveSameRows}
 use Rattle.row_model.specs.RowOrder.{row_cmp, leads, is_ordered, placed, merged}
 use Rattle.row_model.specs.RowLaws.{there_first, there_behind, there_cases, there_never, as_row, batch_shows}

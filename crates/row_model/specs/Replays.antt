@@ -3,7 +3,7 @@ use Rattle.std.specs.Prelude.{ℕ, nat_lt, Bool, true, ◌&&◌, List, [], ◌�
 use Rattle.kv_base.specs.Map.{Bytes, Map}
 use Rattle.batch_codec.specs.Batches.{after}
 use Rattle.batch_codec.specs.declared.record.Record.{Record}
-use Rattle.row_model.specs.declared.row.Row.{Row}
+use Rattle.kv_base.specs.declared.row.Row.{Row}
 use Rattle.row_model.specs.Rows.{batch_rows}
 use Rattle.row_model.specs.RowOrder.{merged}
 

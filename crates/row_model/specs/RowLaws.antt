@@ -7,7 +7,7 @@ use Rattle.std.specs.FinMap.Entries.{find}
 use Rattle.kv_base.specs.Inversions.{both_first, both_second}
 use Rattle.kv_base.specs.Map.{Bytes, byte_cmp, same, same_is, same_itself, get}
 use Rattle.batch_codec.specs.Batches.{Entry, Batch}
-use Rattle.row_model.specs.declared.row.Row.{Row}
+use Rattle.kv_base.specs.declared.row.Row.{Row}
 use Rattle.row_model.specs.Rows.{are_upto, shown, newer, seen_at, IsNewestAt, row_of, batch_rows, AreApart, HaveSameRows}
 
 -- ---- the newer of two

@@ -5,7 +5,7 @@ use Rattle.std.proofs.lemmas.Bool.Decides.{nat_tests}
 use Rattle.kv_base.specs.Map.{Bytes, Map, same, same_is, same_map, get, insert, get-empty, get-insert, get-choose}
 use Rattle.batch_codec.specs.Batches.{Batch, after, over}
 use Rattle.batch_codec.specs.BatchLaws.{get-after}
-use Rattle.row_model.specs.declared.row.Row.{Row}
+use Rattle.kv_base.specs.declared.row.Row.{Row}
 use Rattle.row_model.specs.Rows.{are_upto, shown, newer, seen_at, is_newer, newest, at, batch_rows, AreApart, HaveSameRows}
 use Rattle.row_model.specs.RowOrder.{merged}
 use Rattle.row_model.specs.RowLaws.{seen_in_both, same_newest, as_row, batch_shows, batch_hides, seen_on, newest_front}

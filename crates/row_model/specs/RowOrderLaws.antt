@@ -12,7 +12,7 @@ use Rattle.std.proofs.lemmas.Bool.Decides.{nat_tests}
 use Rattle.kv_base.specs.Inversions.{both_first, both_second}
 use Rattle.kv_base.specs.Map.{byte_cmp}
 use Rattle.batch_codec.specs.Batches.{Entry, Batch, is_row, are_rows}
-use Rattle.row_model.specs.declared.row.Row.{Row}
+use Rattle.kv_base.specs.declared.row.Row.{Row}
 use Rattle.row_model.specs.Rows.{are_below, are_upto, are_row_texts, row_of, batch_rows, HaveSameRows}
 use Rattle.row_model.specs.RowOrder.{row_cmp, leads, is_ordered, placed, merged}
 use Rattle.row_model.specs.RowLaws.{there_first, there_behind, there_cases}

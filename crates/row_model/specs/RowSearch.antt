@@ -11,7 +11,7 @@ use Rattle.std.specs.Cmp.Lexicographic.{nat_list_cmp_total}
 use Rattle.std.proofs.lemmas.Bool.Decides.{nat_tests}
 use Rattle.kv_base.specs.Inversions.{both_first, both_second}
 use Rattle.kv_base.specs.Map.{Bytes, byte_cmp, same, same_is, kept}
-use Rattle.row_model.specs.declared.row.Row.{Row}
+use Rattle.kv_base.specs.declared.row.Row.{Row}
 use Rattle.row_model.specs.Rows.{shown, newer, seen_at}
 use Rattle.row_model.specs.RowOrder.{row_cmp, leads, is_ordered, is_before, is_below}
 use Rattle.row_model.specs.RowLaws.{as_row, seen_is, shown_where, there_cases, there_never}

@@ -3,7 +3,7 @@ use Rattle.std.specs.Prelude.{◌≡◌, ℕ, ◌<◌, ◌≤◌, nat_lt, nat_le
 use Rattle.std.specs.List.{list_all, Contains}
 use Rattle.kv_base.specs.Map.{Bytes, same, Map, empty, get, insert, choose}
 use Rattle.batch_codec.specs.Batches.{Entry, Batch, is_row}
-use Rattle.row_model.specs.declared.row.Row.{Row}
+use Rattle.kv_base.specs.declared.row.Row.{Row}
 
 -- raw key and value are on the grammar
 abbrev pub is_row_text : Row → Bool

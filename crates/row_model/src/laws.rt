@@ -6,7 +6,7 @@ ghost use Rattle.std.specs.List.Sorted.{IsPartitionPoint, IsPermutation, IsSorte
 ghost use Rattle.kv_base.specs.Map.{Bytes, empty, get, kept, same};
 ghost use Rattle.batch_codec.specs.Batches.{Batch, after};
 ghost use Rattle.batch_codec.specs.declared.record.Record.{Record};
-ghost use Rattle.row_model.specs.declared.row.Row.{Row};
+ghost use Rattle.kv_base.specs.declared.row.Row.{Row};
 ghost use Rattle.row_model.specs.Rows.{AreApart, HaveSameRows, IsNewestAt, are_below, are_upto, at, batch_rows, newer, seen_at};
 ghost use Rattle.row_model.specs.RowOrder.{is_before, is_ordered, merged, row_cmp};
 ghost use Rattle.row_model.specs.Replays.{do_rise, last_from, record_rows, replayed, rows_after};

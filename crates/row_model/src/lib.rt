@@ -7,9 +7,6 @@
 
 mod laws;
 mod rise;
-mod row;
-#[cfg(test)]
-mod tests;
 
 pub use laws::{
     batches_leave_rows_in_order, batches_show_at_their_sequence, maps_have_what_shows,
@@ -18,4 +15,3 @@ pub use laws::{
     sorted_rows_are_what_records_come_to, the_newest_row_shows,
 };
 pub use rise::sequences_rise;
-pub use row::{Row, RowRef};
