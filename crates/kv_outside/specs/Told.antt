@@ -64,3 +64,6 @@ told_any (Some c) = tt
 
 pub told_given : (P : List ℕ → Type 0) (held : Option (List ℕ)) (bytes : List ℕ) → held ≡ Some bytes → IfSome held P → P bytes
 told_given P held bytes is has = subst (λ (o : Option (List ℕ)). IfSome o P) is has
+
+pub told_is : (P : List ℕ → Type 0) (held : Option (List ℕ)) (bytes : List ℕ) → held ≡ Some bytes → P bytes → IfSome held P
+told_is P held bytes is has = subst (λ (o : Option (List ℕ)). IfSome o P) (sym is) has
