@@ -1,8 +1,8 @@
 -- The law over plans: a plan that has not lapsed is a plan on the rows as they are now, if the same counts of its commands'
 -- keys there, so its batch carries the commands out on them, with the same reply.
-use Rattle.std.proofs.Common.{◌≡◌, ℕ, ◌+◌, ◌≤◌, refl, subst, ◌∙◌, Bool, true, false, cond, ◌||◌, List, [], ◌∷◌, ◌++◌, inl, inr, arith}
+use Rattle.std.proofs.Common.{◌≡◌, ℕ, ◌+◌, ◌≤◌, refl, subst, Bool, true, false, cond, ◌||◌, List, [], ◌∷◌, ◌++◌, inl, inr, arith}
 use Rattle.std.proofs.lemmas.Bool.Decides.{nat_tests}
-use Rattle.std.proofs.lemmas.Bool.{or_parts, or_left, or_right}
+use Rattle.std.proofs.lemmas.Bool.{or_parts}
 use Rattle.std.specs.Prelude.{nat_lt, Option, Some, None, IsTrue, IsFalse}
 use Rattle.std.specs.List.{list_any}
 use Rattle.kv_base.specs.Map.{Bytes}
@@ -22,21 +22,11 @@ use Rattle.lives_model.specs.Plans.{IsPlanOf, IsPlanFor, IsReady, IsFresh, Part,
 use Rattle.lives_model.specs.Lapses.{reads_clock, is_past, lapses, IsStillReady, HoldsLater}
 use Rattle.lives_model.specs.Steps.{step_means}
 use Rattle.lives_model.specs.Joined.{plan_means}
-use Rattle.lives_model.specs.WrittenKeys.{touched_each, touched_in, among-append}
+use Rattle.lives_model.specs.WrittenKeys.{touched_each, touched_in, in_front, behind}
 use Rattle.plan_laws.specs.Ahead.{Holds, not_lapsed, holds_ahead, holds_clock}
 use Rattle.plan_laws.specs.AlikeRows.{LivesAlike, counts_lives}
 use Rattle.plan_laws.specs.StillPlan.{Meets, touched_same, step_too, plan_too}
 use Rattle.plan_laws.specs.AfterSteps.{step_lives, step_fresh}
-
--- ---- keys among those of several commands
-
--- a key of the first is among all
-among_front : (ks js : List Bytes) (k : Bytes) → among ks k ≡ true → among (ks ++ js) k ≡ true
-among_front ks js k h = among-append ks js k ∙ or_left (among ks k) (among js k) h
-
--- and so is one of the others
-among_behind : (ks js : List Bytes) (k : Bytes) → among js k ≡ true → among (ks ++ js) k ≡ true
-among_behind ks js k h = among-append ks js k ∙ or_right (among ks k) (among js k) h
 
 -- ---- what holds of all holds of the first, and of the others
 
@@ -81,8 +71,8 @@ module _ (c d : Rows) (t later base i : ℕ) (m n : RedisMap) (a : Command) (ds 
     le = need.le;
     means = need.means;
     means_too = need.means_too;
-    lives = λ k named. need.lives k (among_front (keys_of a) (keys_of_each ds) k named);
-    above = λ k named. need.above k (among_front (keys_of a) (keys_of_each ds) k named);
+    lives = λ k named. need.lives k (in_front (keys_of a) (keys_of_each ds) k named);
+    above = λ k named. need.above k (in_front (keys_of a) (keys_of_each ds) k named);
     ahead = holds_ahead t later p.until (reads_clock a) (deadlines m t a) plan.ahead first_holds.0;
     clock = holds_clock t later p.until a first_holds.0;
   }
@@ -110,7 +100,7 @@ module _ (c d : Rows) (t later base i : ℕ) (m n : RedisMap) (a : Command) (ds 
       there = step_too c d t later (version base i) m n a p.batch first_meets p.reply plan.step
 
       later_named : (k : Bytes) → among (keys_of_each ds) k ≡ true → among (keys_of a ++ keys_of_each ds) k ≡ true
-      later_named k named = among_behind (keys_of a) (keys_of_each ds) k named
+      later_named k named = behind (keys_of a) (keys_of_each ds) k named
 
 -- the parts are parts on the other rows
 parts_too : (c d : Rows) (t later base i : ℕ) (m n : RedisMap) (ds : List Command) (ps : List Part) → Ahead c d t later base i m n ds ps → AreParts c t base i m ds ps → AreParts d later base i n ds ps
@@ -141,7 +131,7 @@ pub record IsCurrent (c d : Rows) (t later base : ℕ) (m n : RedisMap) (ds : Cm
   pub on_grammar_too : IsOnGrammar d
   pub means : Means c t m
   pub means_too : Means d later n
-  pub ready : IsReady c t (version base 0) (keys_in ds)
+  pub ready : IsReady c t (version base 0) ds
   pub plan : IsPlanFor c t base m ds b answer until
   pub moment : t ≤ later
   pub still : IsStillReady c d later base (keys_in ds)

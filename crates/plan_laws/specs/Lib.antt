@@ -11,3 +11,5 @@ pub mod StillPlan
 pub mod SomeRow
 pub mod AfterSteps
 pub mod HoldsLater
+pub mod Transactions
+pub mod TransactionLaws

@@ -1,5 +1,5 @@
--- The rows for a map are as a plan needs them: its lists stand midway, and each later version is free.
-use Rattle.std.proofs.Common.{◌≡◌, ℕ, ◌<◌, refl, sym, ap, subst, ◌∙◌, Bool, true, false, cond, List, arith}
+-- The rows for a map are as a plan needs them: its lists have room at both ends, and each later version is free.
+use Rattle.std.proofs.Common.{◌≡◌, ℕ, ◌<◌, ◌≤◌, ◌^◌, refl, sym, ap, subst, ◌∙◌, Bool, true, false, cond, arith}
 use Rattle.std.proofs.lemmas.Bool.Decides.{nat_tests}
 use Rattle.std.specs.Prelude.{◌==◌, ◌&&◌, Option, Some, None, option_and_then, IfSome, IsTrue}
 use Rattle.std.specs.List.{flat_map}
@@ -9,31 +9,32 @@ use Rattle.kv_base.specs.Fields.{read_u64}
 use Rattle.kv_base.specs.RawKeys.{ElementKey, ScoreKey, is_key, is_version, score_from, read_raw}
 use Rattle.redis_model.specs.Value.{Value, Str, Hash, ListOf, SetOf, ZSet, Entry, RedisMap}
 use Rattle.redis_model.specs.Keys.{among}
-use Rattle.redis_model.specs.Limits.{IsName}
+use Rattle.redis_model.specs.declared.command.Cmds.{Cmds}
 use Rattle.redis_model.specs.Valid.{IsValue}
 use Rattle.lives_model.specs.Rows.{Side, Elements, Scores, row_key}
 use Rattle.lives_model.specs.Clean.{live_at}
 use Rattle.lives_model.specs.Means.{meta_for, row_of}
-use Rattle.lives_model.specs.Plans.{IsMidway, IsFresh, IsReady}
+use Rattle.lives_model.specs.Plans.{HasRoom, IsFresh, IsReady, AreAsked, words_in}
+use Rattle.lives_model.specs.AskedKeys.{asked_keys}
+use Rattle.lives_model.specs.IssuedLaws.{asked_words}
 use Rattle.plan_laws.specs.RowsFor.{IsKeptAt, CanBeKept, first_life, expire_from, life_row, row_for, raws_of, rows_for}
 use Rattle.plan_laws.specs.RawKeysRead.{element_key_by, score_at, score_key_by}
-use Rattle.plan_laws.specs.RowsForLaws.{name_is_key}
 use Rattle.plan_laws.specs.EveryMap.{row_at, live_is, live_none}
 
 -- ---- lists
 
--- a list of any size starts midway
-value_midway : (v : Value) (x : ℕ) → IsValue v → IsMidway (Some (meta_for v first_life x))
-value_midway (Str v) x h = tt
-value_midway (Hash v) x h = tt
-value_midway (ListOf v) x h = let few = h.1 in (omega arith, omega arith)
-value_midway (SetOf v) x h = tt
-value_midway (ZSet v) x h = tt
+-- a list of any size that starts in the middle has room at both ends
+value_room : (n : ℕ) (v : Value) (x : ℕ) → n ≤ 2 ^ 20 → IsValue v → HasRoom n (Some (meta_for v first_life x))
+value_room n (Str v) x low h = tt
+value_room n (Hash v) x low h = tt
+value_room n (ListOf v) x low h = let few = h.1 in (omega arith, omega arith)
+value_room n (SetOf v) x low h = tt
+value_room n (ZSet v) x low h = tt
 
--- so does each list of a map
-key_midway : (m : RedisMap) (t : ℕ) (k : Bytes) (o : Option Entry) → get m k ≡ o → IfSome o (IsKeptAt t k) → IsMidway (live_at (rows_for m) t k)
-key_midway m t k None none fit = subst IsMidway (sym (live_none m t k none)) tt
-key_midway m t k (Some e) is fit = subst IsMidway (sym (live_is m t k e is fit)) (value_midway e.value (expire_from e.deadline) fit.value)
+-- so has each list of a map
+key_room : (m : RedisMap) (t n : ℕ) (k : Bytes) (o : Option Entry) → n ≤ 2 ^ 20 → get m k ≡ o → IfSome o (IsKeptAt t k) → HasRoom n (live_at (rows_for m) t k)
+key_room m t n k None low none fit = subst (HasRoom n) (sym (live_none m t k none)) tt
+key_room m t n k (Some e) low is fit = subst (HasRoom n) (sym (live_is m t k e is fit)) (value_room n e.value (expire_from e.deadline) low fit.value)
 
 -- ---- versions
 
@@ -71,16 +72,16 @@ either_none true o e = e
 either_none false o e = refl
 
 -- a version above the first one is free
-version_free : (m : RedisMap) (fresh : ℕ) (k : Bytes) → first_life.version < fresh → IsName k → IsFresh (rows_for m) fresh k
-version_free m fresh k above name side version subkey high low =
+version_free : (m : RedisMap) (fresh : ℕ) (k : Bytes) → first_life.version < fresh → IsTrue (is_key k) → IsFresh (rows_for m) fresh k
+version_free m fresh k above key side version subkey high low =
     let later : first_life.version < version = omega arith in
     row_at m (row_key side k version subkey)
-    ∙ either_none (among (flat_map raws_of m.entries) (row_key side k version subkey)) (row_for m (read_raw (row_key side k version subkey))) (none_read m k version later side subkey (name_is_key k name) low)
+    ∙ either_none (among (flat_map raws_of m.entries) (row_key side k version subkey)) (row_for m (read_raw (row_key side k version subkey))) (none_read m k version later side subkey key low)
 
--- so a plan can be asked of them, at any keys
-pub rows_for_ready : (m : RedisMap) (t fresh : ℕ) (ks : List Bytes) → CanBeKept m t → ((k : Bytes) → IsTrue (among ks k) → IsName k) → first_life.version < fresh → IsTrue (is_version fresh) → IsReady (rows_for m) t fresh ks
-rows_for_ready m t fresh ks can names above low = record {
+-- so a plan can be asked of them, of any commands
+pub rows_for_ready : (m : RedisMap) (t fresh : ℕ) (ds : Cmds) → CanBeKept m t → AreAsked ds → first_life.version < fresh → IsTrue (is_version fresh) → IsReady (rows_for m) t fresh ds
+rows_for_ready m t fresh ds can asked above low = record {
   fits = low;
-  midway = λ k named. key_midway m t k (get m k) refl (can.entries k);
-  above = λ k named. version_free m fresh k above (names k named);
+  room = λ k named. key_room m t (words_in ds) k (get m k) (asked_words ds asked) refl (can.entries k);
+  above = λ k named. version_free m fresh k above (asked_keys ds k asked named);
 }

@@ -13,11 +13,12 @@ use Rattle.kv_base.specs.Number.{fits}
 use Rattle.kv_base.specs.Fields.{u64, read_u64}
 use Rattle.kv_base.specs.FieldLaws.{only_u64_is_read}
 use Rattle.kv_base.specs.Inversions.{same_some, map_is, if_is, number_is}
-use Rattle.kv_base.specs.RawKeys.{is_key, score_number}
+use Rattle.kv_base.specs.RawKeys.{score_number}
 use Rattle.redis_model.specs.Value.{Value, Str, Hash, ListOf, SetOf, ZSet, Entry}
 use Rattle.redis_model.specs.Keys.{among}
-use Rattle.redis_model.specs.Limits.{IsName, IsWholeScore}
+use Rattle.redis_model.specs.Limits.{IsWholeScore}
 use Rattle.lives_model.specs.Rows.{Side, Elements, Scores, meta_key, row_key}
+pub use Rattle.lives_model.specs.AskedKeys.{name_is_key}
 use Rattle.lives_model.specs.Means.{row_of, item_row, member_row, is_scored}
 use Rattle.plan_laws.specs.RowsFor.{first_life, indices, subkeys, raws_of}
 
@@ -26,10 +27,6 @@ use Rattle.plan_laws.specs.RowsFor.{first_life, indices, subkeys, raws_of}
 -- what holds of a value if there is one holds of the value that is there
 pub if_some : {X : Type 0} (P : X → Type 0) (o : Option X) (x : X) → o ≡ Some x → IfSome o P → P x
 if_some {X} P o x e h = subst (λ (u : Option X). IfSome u P) e h
-
--- a name is as short as a key
-pub name_is_key : (x : Bytes) → IsName x → is_key x ≡ true
-name_is_key x h = grind (arith, nat_tests)
 
 -- a whole score fits 64 bits
 pub whole_fits : (s : ℤ) → IsWholeScore s → fits s ≡ true

@@ -1,3 +1,4 @@
+pub mod BatchRows
 pub mod Merging
 pub mod ReplayLaws
 pub mod Replays
