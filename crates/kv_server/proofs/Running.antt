@@ -1,5 +1,6 @@
 -- What a run says, by its status.
-use Rattle.std.proofs.Common.{◌≡◌, ◌≢◌, ◌≤◌, ℕ, [], inl, inr, ◌⊎◌, ⊎_elim, refl, sym, subst, ◌∙◌, arith}
+use Rattle.std.proofs.Common.{◌≡◌, ◌≢◌, ◌≤◌, ℕ, [], inl, inr, ◌⊎◌, ⊎_elim, refl, sym, ap, subst, ◌∙◌, arith}
+use Rattle.kv_base.specs.Map.{Bytes}
 use Rattle.kv_base.specs.declared.fault.StoreFault.{StoreFault}
 use Rattle.kv_base.specs.declared.fault.StoreFault.TheVariants as fault
 use Rattle.kv_outside.specs.Causes.{Rose, rose_since}
@@ -9,14 +10,12 @@ use Rattle.session.specs.declared.session.Outcome.TheVariants as outcome
 use Rattle.session.specs.Session.{IsCaused}
 use Rattle.session.specs.Answer.{damage_line}
 use Rattle.redis_model.specs.Machine.{State}
-use Rattle.redis_model.specs.Value.{RedisMap}
-use Rattle.lives_model.specs.Means.{Means}
-use Rattle.log_store.specs.Recover.{Recovered}
-use Rattle.log_store.specs.Keeping.{StoreState as KeptState, FailsToOpen, IsKept, IsOpened, StandsFor, Keeps, KeepsOrMore}
+use Rattle.redis_model.specs.Value.{RedisMap, alive}
+use Rattle.log_store.specs.Keeping.{StoreState as KeptState, state_of, FailsToOpen, HoldsKeys, IsKept, IsOpened, StandsFor, Keeps, KeepsOrMore, ComesTo}
 use Rattle.log_store.specs.KeepLaws.{opened_stands}
 use Rattle.kv_server.specs.Dialog.{StoreState}
 use Rattle.kv_server.specs.Outside.{Outside}
-use Rattle.kv_server.specs.Script.{status, opening_status, unclosed_status, EndsWith, Tells, IsWritten, IsRun, IsGood, IsFaultTold, IsFront, IsDamageTold, IsWhole, IsSession, LeavesKeys, Opened, Talked, Went, store_of, store_from}
+use Rattle.kv_server.specs.Script.{status, opening_status, unclosed_status, EndsWith, Tells, IsWritten, IsRun, IsGood, IsFaultTold, IsFront, IsDamageTold, IsWhole, IsSession, ComesToStore, LeavesKeys, Opened, Went, store_of, store_from}
 use Rattle.kv_server.proofs.Output.{closed_output, broken_output, protocol_output, whole_is_answered}
 
 -- ---- which status can be which
@@ -62,7 +61,7 @@ refused_status n f is = rw is (opening_is f)
 module _ (n : ℕ) (old new : Outside) where
   -- what holds of what comes of a store that was opened holds of the store
   opened_on : {P Q : StoreState → Type 0} → ((first : StoreState) → P first → Q first) → Opened old.disk old.files P → Opened old.disk old.files Q
-  opened_on on o = record { start = o.start; begins = o.begins; faults = o.faults; since = o.since; holds = λ keys means. on (store_from o.start keys o.faults) (o.holds keys means) }
+  opened_on on o = record { start = o.start; begins = o.begins; faults = o.faults; since = o.since; holds = λ keys holds. on (store_from o.start keys o.faults) (o.holds keys holds) }
 
   pub good_run : IsRun n old new → n ≡ 0 → Opened old.disk old.files (IsGood new.disk new.files old.left old.readings old.held new.held)
   good_run (inl r) zero = let is = refused_status n r.fault r.status in absurd (omega (arith, zero, is))
@@ -160,16 +159,29 @@ ends_since : (o : Outcome) (n first before now : ℕ) → first ≤ before → E
 ends_since o n first before now later (inl is) = inl is
 ends_since o n first before now later (inr closing) = inr (closing.0, rose_since first before now later closing.1)
 
--- the store at the opening, by what was read of the log
-same_start : (r : Recovered) (k : KeptState) (keys : RedisMap) (faults : ℕ) → r.sequence ≡ k.sequence → store_of (record { keys = keys; floor = r.floor; pins = [] }) k faults ≡ store_from r keys faults
-same_start r k keys faults sequence = λ j. record { state = record { keys = keys; floor = r.floor; pins = [] }; sequence = sym sequence j; faults = faults }
+-- what the log of a store comes to is what the store stands for
+comes_to_store : (disk : Disk) (k : KeptState) (s : State) (faults : ℕ) → StandsFor k s → Keeps disk k → LeavesKeys disk (store_of s k faults)
+comes_to_store disk k s faults stands keeps = record { each = λ c image. comes c (keeps.each c image) }
+  where
+    comes : (c : Bytes) → ComesTo (state_of k) c → ComesToStore (store_of s k faults) c
+    comes c is = record {
+      comes = record {
+        state = state_of k;
+        is = is;
+        at_last_batch = stands.at_last_batch;
+        holds = stands.holds;
+        past = omega (arith, stands.past, stands.floor);
+        keys_are = stands.keys ∙ ap (alive stands.at_last_batch) (sym stands.floor);
+      };
+      sequence = refl;
+    }
 
 -- A store was opened on this outside, a session was served from the disk and the count of the opening on, and the store was
 -- closed on that which the session left.
 pub served_run : (n : ℕ) (old : Outside) (opened : Disk) (f1 : ℕ) (ended : Outside) (new : Disk) (f3 : ℕ) (k k' : KeptState) (o : Outcome)
     → IsOpened old.disk opened k → old.files ≤ f1 → f1 ≤ ended.files → ended.files ≤ f3
     → (IsKept opened k → IsSession o k k' (record old { disk = opened; files = f1 }) ended) → IsCaused o old.source ended.source old.sink ended.sink
-    → EndsWith o n ended.files f3 → (n ≡ 0 → IsKept ended.disk k' → (s : State) → StandsFor k' s → LeavesKeys new s) → (IsKept ended.disk k' → Keeps new k'.rows k'.written ⊎ KeepsOrMore new k'.rows k'.written k'.sequence)
+    → EndsWith o n ended.files f3 → (n ≡ 0 → IsKept ended.disk k' → Keeps new k') → (IsKept ended.disk k' → Keeps new k' ⊎ KeepsOrMore new k')
     → IsRun n old (record ended { disk = new; files = f3 })
 served_run n old opened f1 ended new f3 k k' o opening later more closing session caused ends closed unclosed =
     let went = session opening.keeps in
@@ -178,17 +190,17 @@ served_run n old opened f1 ended new f3 k k' o opening later more closing sessio
       ran = record { taken = went.ran.taken; served = went.ran.served; answers = went.ran.answers; line = went.ran.line; took = went.ran.took; limit = went.ran.limit; ends = went.ran.ends; wrote = went.ran.wrote };
       caused = caused;
       ends = ends_since o n old.files ended.files f3 (omega (arith, later, more)) ends;
-      opened = record { start = opening.state; begins = opening.start; faults = f1; since = later; holds = λ keys means. leads_to went keys means };
+      opened = record { start = state_of k; begins = opening.start; faults = f1; since = later; holds = λ keys holds. leads_to went keys holds };
     })
   where
-    leads_to : (went : IsSession o k k' (record old { disk = opened; files = f1 }) ended) (keys : RedisMap) → Means opening.state.rows opening.state.floor keys
-        → Went n (record ended { disk = new; files = f3 }) went.ran.served went.ran.answers old.readings (store_from opening.state keys f1)
-    leads_to went keys means =
-        let on = went.leads (record { keys = keys; floor = opening.state.floor; pins = [] }) (opened_stands old.disk opened k opening keys means) in
+    leads_to : (went : IsSession o k k' (record old { disk = opened; files = f1 }) ended) (keys : RedisMap) → HoldsKeys (state_of k) keys
+        → Went n (record ended { disk = new; files = f3 }) went.ran.served went.ran.answers old.readings (store_from (state_of k) keys f1)
+    leads_to went keys holds =
+        let on = went.leads (record { keys = keys; floor = k.written; pins = [] }) (opened_stands old.disk opened k opening keys holds) in
         record {
           last = store_of on.state k' ended.files;
           until = closing;
-          talked = subst (λ (x : StoreState). Talked x (store_of on.state k' ended.files) went.ran.served went.ran.answers old.readings ended.readings) (same_start opening.state k keys f1 opening.sequence) on.talked;
-          kept = λ zero. closed zero on.keeps on.state on.stands;
-          kept_or_more = record { store = k'; stands = on.stands; leaves = unclosed on.keeps };
+          talked = on.talked;
+          kept = λ zero. comes_to_store new k' on.state ended.files on.stands (closed zero on.keeps);
+          kept_or_more = record { store = k'; stands = on.stands; sequence = refl; leaves = unclosed on.keeps };
         }

@@ -22,8 +22,8 @@ use Rattle.lives_model.specs.CleanLaws.{means_later}
 use Rattle.lives_model.specs.OwnKeys.{reading_step}
 use Rattle.log_store.specs.Keeping.{StoreState, StandsFor, IsKept}
 use Rattle.log_store.specs.Playing.{batches, batches_of, planned_for, IsBodyOfPlan, IsSized, IsUnchanged, PlayFails, Plays}
-use Rattle.log_store.specs.KeepLaws.{means_alike, stands_mean, stands_alive}
-use Rattle.log_store.specs.PlayLaws.{batches_are, planned_none, not_none}
+use Rattle.log_store.specs.KeepLaws.{holds_alike, stands_mean}
+use Rattle.log_store.specs.PlayLaws.{batches_are, planned_none, some_batch}
 use Rattle.kv_server.specs.Alone.{knows_alone, goes_on, stays_so}
 use Rattle.kv_server.specs.Standing.{DeskParts, Stands, Planned, told_of}
 use Rattle.kv_server.proofs.Talk.{IsForOne, IsUnwritten}
@@ -50,7 +50,7 @@ sized_none k now s c planned sized reads = ⊎_elim (λ (none : planned ≡ 0). 
 same_stands : (k k' : StoreState) (s : State) → IsUnchanged k k' → StandsFor k s → StandsFor k' s
 same_stands k k' s same stands = record {
   at_last_batch = stands.at_last_batch;
-  means = means_alike k.rows k'.rows k.written k'.written stands.at_last_batch (sym same.rows) (sym same.written) stands.means;
+  holds = holds_alike k k' stands.at_last_batch same.rows same.written same.sequence stands.holds;
   past = omega (arith, stands.past, same.written, same.floor);
   keys = stands.keys ∙ ap (alive stands.at_last_batch) (sym same.floor);
   floor = stands.floor ∙ sym same.floor;
@@ -78,10 +78,6 @@ still_planned k k' now c met body same met_is body_is sized = (
   where
     reversed : IsUnchanged k k' → IsUnchanged k' k
     reversed u = record { rows = sym u.rows; floor = sym u.floor; written = sym u.written; sequence = sym u.sequence }
-
--- where a body was planned there is one batch
-some_batch : (n : ℕ) → 0 < n → batches n ≡ 1
-some_batch n some = ap (λ (b : Bool). cond {A = ℕ} b 0 1) (not_none n some)
 
 -- a sequence that has room, or needs none, stays within its limit
 within : (k k' : StoreState) → k'.sequence ≡ k.sequence + batches k'.planned → (0 < k'.planned → k.sequence < last_sequence) → k.sequence ≤ last_sequence → k'.sequence ≤ last_sequence

@@ -22,9 +22,8 @@ use Rattle.kv_outside.specs.Disk.{Disk, Leaves}
 use Rattle.session.specs.Answer.{damage_line}
 use Rattle.redis_model.specs.Machine.{State}
 use Rattle.redis_model.specs.Value.{RedisMap}
-use Rattle.lives_model.specs.Means.{Means}
 use Rattle.log_store.specs.Recover.{Recovered}
-use Rattle.log_store.specs.Keeping.{StoreState as KeptState, IsKept, StandsFor, log_file, IsStart, IsDamagedLog, FailsToOpen, ComesToKeys, Keeps, KeepsOrMore}
+use Rattle.log_store.specs.Keeping.{StoreState as KeptState, HoldsKeys, IsKept, StandsFor, log_file, IsStart, IsDamagedLog, FailsToOpen, ComesToKeys, Keeps, KeepsOrMore}
 use Rattle.kv_server.specs.Dialog.{StoreState, Dialog}
 use Rattle.kv_server.specs.Outside.{Outside}
 
@@ -179,36 +178,42 @@ pub record IsRefused (n : ℕ) (old new : Outside) : Type 0 where
   pub wrote : Tells fault old.held new.held old.sink new.sink
   pub untaken : new.left ≡ old.left
 
--- the store that a log was opened as, whose rows mean these keys, where calls to the files have failed so often
+-- the store that a log was opened as, whose rows hold these keys, where calls to the files have failed so often
 abbrev pub store_from : Recovered → RedisMap → ℕ → StoreState
 store_from r keys faults = record { state = record { keys = keys; floor = r.floor; pins = [] }; sequence = r.sequence; faults = faults }
 
--- The log that this disk had was opened, and where its rows mean keys, this holds of the store that begins with them.
+-- The log that this disk had was opened, and where its rows hold keys, this holds of the store that begins with them.
 pub record Opened (disk : Disk) (files : ℕ) (Holds : StoreState → Type 0) : Type 0 where
   pub start : Recovered
   pub begins : IsStart disk start
   pub faults : ℕ
   pub since : files ≤ faults
-  pub holds : (keys : RedisMap) → Means start.rows start.floor keys → Holds (store_from start keys faults)
+  pub holds : (keys : RedisMap) → HoldsKeys start keys → Holds (store_from start keys faults)
 
--- each image of the log that a crash may leave now comes to the keys of this state
-abbrev pub LeavesKeys : Disk → State → Type 0
-LeavesKeys disk s = Leaves disk log_file (ComesToKeys s.floor s.keys)
+-- these bytes of the log come to the keys of this store, and to the sequence of its last batch
+pub record ComesToStore (s : StoreState) (bytes : Bytes) : Type 0 where
+  pub comes : ComesToKeys s.state.floor s.state.keys bytes
+  pub sequence : comes.state.sequence ≡ s.sequence
 
--- It comes to the rows of a store that stands for this state, or to them after one batch more, which failed.
-pub record LeavesKeysOrMore (disk : Disk) (s : State) : Type 0 where
+-- each image of the log that a crash may leave now does
+abbrev pub LeavesKeys : Disk → StoreState → Type 0
+LeavesKeys disk s = Leaves disk log_file (ComesToStore s)
+
+-- It comes to the rows of a store that stands for this one, or to them after one batch more, which failed.
+pub record LeavesKeysOrMore (disk : Disk) (s : StoreState) : Type 0 where
   pub store : KeptState
-  pub stands : StandsFor store s
-  pub leaves : Keeps disk store.rows store.written ⊎ KeepsOrMore disk store.rows store.written store.sequence
+  pub stands : StandsFor store s.state
+  pub sequence : store.sequence ≡ s.sequence
+  pub leaves : Keeps disk store ⊎ KeepsOrMore disk store
 
--- From the store that was opened, the answers are the machine's. With status 0 the log comes to the keys at the end, at any
--- crash from then on; with another one it may come to them after one batch more.
+-- From the store that was opened, the answers are the machine's. With status 0 the log comes to the keys and to the
+-- sequence at the end, at any crash from then on; with another one it may come to them after one batch more.
 pub record Went (n : ℕ) (new : Outside) (served : List (List Bytes)) (answers : List Answer) (ahead : Option (List ℕ)) (first : StoreState) : Type 0 where
   pub last : StoreState
   pub until : last.faults ≤ new.files
   pub talked : Talked first last served answers ahead new.readings
-  pub kept : n ≡ 0 → LeavesKeys new.disk last.state
-  pub kept_or_more : LeavesKeysOrMore new.disk last.state
+  pub kept : n ≡ 0 → LeavesKeys new.disk last
+  pub kept_or_more : LeavesKeysOrMore new.disk last
 
 -- A session was served.
 pub record IsServed (n : ℕ) (old new : Outside) : Type 0 where
@@ -227,7 +232,7 @@ pub record IsGood (disk' : Disk) (files' : ℕ) (left ahead held held' : Option 
   pub last : StoreState
   pub until : last.faults ≤ files'
   pub answered : IsAnswered first last left ahead held held'
-  pub kept : LeavesKeys disk' last.state
+  pub kept : LeavesKeys disk' last
 
 -- What a run says whose input is off the grammar, or ends inside a request: the answers to all requests before, and the
 -- line. The log comes to the keys at the end, or to them after one batch more.
@@ -235,14 +240,14 @@ pub record IsFaultTold (disk' : Disk) (files' : ℕ) (left ahead held held' : Op
   pub last : StoreState
   pub until : last.faults ≤ files'
   pub rejected : IsRejected first last left ahead held held'
-  pub kept_or_more : LeavesKeysOrMore disk' last.state
+  pub kept_or_more : LeavesKeysOrMore disk' last
 
 -- What a run says whose sink failed: a front of the answers, and of the line behind them.
 pub record IsFront (disk' : Disk) (files' : ℕ) (left ahead held held' : Option (List ℕ)) (first : StoreState) : Type 0 where
   pub last : StoreState
   pub until : last.faults ≤ files'
   pub front : HasFront first last left ahead held held'
-  pub kept_or_more : LeavesKeysOrMore disk' last.state
+  pub kept_or_more : LeavesKeysOrMore disk' last
 
 -- the log is damaged, which was told
 pub record IsDamageTold (disk : Disk) (held held' : Option (List ℕ)) (sink sink' : ℕ) : Type 0 where

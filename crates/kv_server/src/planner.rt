@@ -1,14 +1,13 @@
-ghost use Rattle.std.specs.Prelude.{◌≡◌, ◌≤◌, IfOk, IfErr, IfSome, IsTrue};
+ghost use Rattle.std.specs.Prelude.{◌≤◌, IfOk, IfSome, IsTrue};
 ghost use Rattle.redis_model.specs.declared.command.Cmds.TheVariants.{One};
 ghost use Rattle.redis_model.specs.Built.{built};
 ghost use Rattle.redis_model.specs.Desk.{last_sequence};
 ghost use Rattle.redis_model.specs.Limits.{IsWithin};
-ghost use Rattle.lives_model.specs.Causes.{IsCause};
-ghost use Rattle.log_store.specs.Playing.{IsPlannedAlways};
+ghost use Rattle.lives_model.specs.Plans.{IsPlanned};
+ghost use Rattle.lives_model.specs.Views.{Reads};
 
 use kv_base::StoreFault;
-use lives_model::{Plan, RawView};
-use log_store::StepPlanner;
+use lives_model::{Plan, Planner, RawView};
 use redis_model::{Cmds, Command};
 use std::alloc::Global;
 use string_cmds::{plan_no_keys, plan_string};
@@ -20,7 +19,7 @@ const VERSIONS: u64 = 2048;
 #[derive(Clone, Copy, Drop)]
 pub struct BuiltPlanner;
 
-impl StepPlanner for BuiltPlanner {
+impl Planner for BuiltPlanner {
     ghost use Rattle.kv_server.specs.Built.{IsBuilt};
 
     ghost plans = { IsBuilt };
@@ -51,13 +50,9 @@ fn plan_one<V: RawView>(
     requires base { base ≤ last_sequence }
     requires within { IsWithin command.now }
     requires built { IsTrue (built command.now) }
-    ensures plan { IfOk result (λ plan. IfSome (V.rows view.old)
-        (λ c. IsPlannedAlways c moment base (One command.now) plan.batch plan.reply plan.until)) }
-    ensures rows { V.rows view.new ≡ V.rows view.old }
-    ensures off { V.off view.new ≡ V.off view.old }
-    ensures loans { V.loans view.new ≡ V.loans view.old }
-    ensures cause { IfErr result (λ fault. IsCause (V.faults view.old) (V.faults view.new) (V.off view.old) fault) }
-    ensures later { V.faults view.old ≤ V.faults view.new }
+    ensures plan { IfOk result (λ plan. IfSome (V.told view.old).rows
+        (λ c. IsPlanned c moment base (One command.now) plan.batch plan.reply plan.until)) }
+    ensures reads { Reads (V.told view.old) (V.told view.new) result }
 {
     if command.is_keyless() {
         return Ok(plan_no_keys(alloc, command)?);

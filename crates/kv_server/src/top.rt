@@ -1,9 +1,7 @@
 ghost use Rattle.std.specs.Prelude.{◌≡◌, ◌≢◌, ◌≤◌, ◌⊎◌, ◌↔◌, map, false, string_bytes};
 ghost use Rattle.kv_outside.specs.Causes.{Rose};
-ghost use Rattle.kv_outside.specs.Disk.{Leaves};
 ghost use Rattle.session.specs.Session.{IsCaused};
-ghost use Rattle.redis_model.specs.Machine.{State};
-ghost use Rattle.log_store.specs.Keeping.{ComesToKeys, IsKept, Keeps, KeepsOrMore, StandsFor, log_file};
+ghost use Rattle.log_store.specs.Keeping.{IsKept, Keeps, KeepsOrMore};
 ghost use Rattle.kv_server.specs.Outside.{outside};
 ghost use Rattle.kv_server.specs.Script.{is_script as is_script_line, status, opening_status, unclosed_status, EndsWith, Tells, IsSession, IsRun, IsGood, IsFaultTold, IsFront, IsDamageTold, IsWhole, Opened};
 
@@ -90,11 +88,9 @@ fn status_unclosed(outcome: Outcome) -> u8
 fn finish<F: Files>(store: &mut LogStore<F>, files: &mut F, outcome: Outcome) -> u8
     ensures ends { EndsWith outcome result (F.faults files.old) (F.faults files.new) }
     ensures later { F.faults files.old ≤ F.faults files.new }
-    ensures kept { result ≡ 0 → IsKept (F.disk files.old) store.old → (s : State) → StandsFor store.old s
-        → Leaves (F.disk files.new) log_file (ComesToKeys s.floor s.keys) }
+    ensures kept { result ≡ 0 → IsKept (F.disk files.old) store.old → Keeps (F.disk files.new) store.old }
     ensures kept_or_more { IsKept (F.disk files.old) store.old
-        → Keeps (F.disk files.new) store.old.rows store.old.written
-        ⊎ KeepsOrMore (F.disk files.new) store.old.rows store.old.written store.old.sequence }
+        → Keeps (F.disk files.new) store.old ⊎ KeepsOrMore (F.disk files.new) store.old }
 {
     match store.close(files) {
         Ok(()) => status_of(outcome),

@@ -17,11 +17,11 @@ use Rattle.wal_log.specs.Segments.{is_next, record_behind, records_of, last_behi
 use Rattle.wal_log.specs.SegmentLaws.{segment_of-records, records_of-push, record_behind-written}
 use Rattle.redis_model.specs.Machine.{State}
 use Rattle.lives_model.specs.Rows.{Rows}
-use Rattle.log_store.specs.Recover.{Recovered, nothing, with_record, with_records, by_records, recovered_by, recovered}
+use Rattle.log_store.specs.Recover.{Recovered, nothing, with_batch, with_record, with_records, by_records, recovered_by, recovered}
 use Rattle.log_store.specs.Planned.{IsOfCommands}
-use Rattle.log_store.specs.Keeping.{log_file, StoreState, StandsFor, IsAttempt, Attempted, Holds, IsKept, ComesTo, ComesToKeys, Keeps, KeepsOrMore}
+use Rattle.log_store.specs.Keeping.{log_file, StoreState, state_of, StandsFor, IsAttempt, Attempted, Holds, IsKept, ComesTo, ComesToEither, ComesToKeys, Keeps, KeepsOrMore}
 use Rattle.log_store.specs.KeepLaws.{same_state, stands_comes}
-use Rattle.log_store.specs.Playing.{IsEitherRows, IsWrite}
+use Rattle.log_store.specs.Playing.{IsWrite}
 
 -- ---- one record more
 
@@ -101,19 +101,19 @@ record IsAdded (bodies : List Bytes) (records : List Record) (state : Recovered)
   pub read : records_of (bodies ++ body ∷ []) ≡ Ok (records ++ r ∷ [])
   pub made : by_records (records ++ r ∷ []) ≡ Ok (with_record state r)
 
-is_added : (bodies : List Bytes) (records : List Record) (state : Recovered) (sequence floor : ℕ) (batch : Batch) (moment : ℕ) (body : Bytes)
-    → records_of bodies ≡ Ok records → by_records records ≡ Ok state → state.sequence ≡ sequence → state.floor ≤ floor → IsWrite sequence floor batch moment body
-    → IsAdded bodies records state body (record_of sequence moment batch)
-is_added bodies records state sequence floor batch moment body read made last low write =
-    let next : sequence + 1 ≡ state.sequence + 1 = omega arith in
-    let behind : record_behind (last_of records) body ≡ Some (record_of sequence moment batch) =
+is_added : (bodies : List Bytes) (records : List Record) (state : Recovered) (floor : ℕ) (batch : Batch) (moment : ℕ) (body : Bytes)
+    → records_of bodies ≡ Ok records → by_records records ≡ Ok state → state.floor ≤ floor → IsWrite state.sequence floor batch moment body
+    → IsAdded bodies records state body (record_of state.sequence moment batch)
+is_added bodies records state floor batch moment body read made low write =
+    let r : Record = record_of state.sequence moment batch in
+    let behind : record_behind (last_of records) body ≡ Some r =
     ap (record_behind (last_of records)) write.is
-    ∙ record_behind-written (last_of records) (sequence + 1) moment batch (is_writable sequence floor batch moment body write)
-    (short body (body_of (sequence + 1) moment batch) write.is write.fits)
-    (may_follow (last_of records) state (record_of sequence moment batch) (by_records-last records state made) next (omega (arith, write.later))) in
+    ∙ record_behind-written (last_of records) (state.sequence + 1) moment batch (is_writable state.sequence floor batch moment body write)
+    (short body (body_of (state.sequence + 1) moment batch) write.is write.fits)
+    (may_follow (last_of records) state r (by_records-last records state made) refl (omega (arith, write.later))) in
     record {
-      read = records_of-push bodies body records (record_of sequence moment batch) read behind;
-      made = by_records-push records (record_of sequence moment batch) state made next;
+      read = records_of-push bodies body records r read behind;
+      made = by_records-push records r state made refl;
     }
   where
     short : (a b : Bytes) → a ≡ b → length a ≤ 4294967295 → length b < 2 ^ 32
@@ -136,65 +136,54 @@ rests_hold false disk log bodies state sure rests = rests
 
 -- where only the floor rose, or nothing changed
 pub kept_still : (disk : Disk) (old new : StoreState) → new.rows ≡ old.rows → new.written ≡ old.written → new.log ≡ old.log → new.sequence ≡ old.sequence → IsKept disk old → IsKept disk new
-kept_still disk old new rows written log sequence kept = record {
-  bodies = kept.bodies;
-  records = kept.records;
-  state = kept.state;
-  name = ap (λ (l : LogState). l.name) log ∙ kept.name;
-  read = kept.read;
-  made = kept.made;
-  rows = kept.rows ∙ sym rows;
-  written = kept.written ∙ sym written;
-  last = kept.last ∙ sym sequence;
-  holds = subst (λ (l : LogState). Holds l.unsure disk l kept.bodies kept.state) (sym log) kept.holds;
-}
+kept_still disk old new rows written log sequence kept =
+    let same : state_of old ≡ state_of new = λ i. record { rows = sym rows i; floor = sym written i; sequence = sym sequence i } in
+    record {
+      bodies = kept.bodies;
+      records = kept.records;
+      name = ap (λ (l : LogState). l.name) log ∙ kept.name;
+      read = kept.read;
+      made = kept.made ∙ ap (λ (s : Recovered). Ok s) same;
+      holds = subst (λ (s : Recovered). Holds new.log.unsure disk new.log kept.bodies s) same
+          (subst (λ (l : LogState). Holds l.unsure disk l kept.bodies (state_of old)) (sym log) kept.holds);
+    }
 
 -- a batch behind what is kept
 batch_behind : (disk : Disk) (old : StoreState) (batch : Batch) (moment : ℕ) (body : Bytes) → old.written ≤ old.floor → IsWrite old.sequence old.floor batch moment body → (kept : IsKept disk old)
-    → IsAdded kept.bodies kept.records kept.state body (record_of old.sequence moment batch)
+    → IsAdded kept.bodies kept.records (state_of old) body (record_of old.sequence moment batch)
 batch_behind disk old batch moment body past write kept =
-    is_added kept.bodies kept.records kept.state old.sequence old.floor batch moment body kept.read kept.made kept.last (omega (arith, kept.written)) write
+    is_added kept.bodies kept.records (state_of old) old.floor batch moment body kept.read kept.made past write
 
 -- the batch is in the log
 pub kept_added : (before now : Disk) (old new : StoreState) (seen done : LogState) (batch : Batch) (moment : ℕ) (body : Bytes) → old.written ≤ old.floor → IsWrite old.sequence old.floor batch moment body
     → seen ≡ old.log → new.log ≡ done
     → ((bodies : List Bytes) (tried : Bytes) → IsLeft seen.unsure before seen bodies tried → Rests now done (bodies ++ body ∷ []))
-    → done.unsure ≡ false → done.name ≡ seen.name → new.rows ≡ after old.rows batch → new.written ≡ moment → new.sequence ≡ old.sequence + 1
+    → done.unsure ≡ false → done.name ≡ seen.name → state_of new ≡ with_batch (state_of old) batch moment
     → IsKept before old → IsKept now new
-kept_added before now old new seen done batch moment body past write was is added sure name rows written sequence kept =
-    let more = batch_behind before old batch moment body past write kept in
-    let holds : Holds seen.unsure before seen kept.bodies kept.state = subst (λ (l : LogState). Holds l.unsure before l kept.bodies kept.state) (sym was) kept.holds in
-    let left = holds_left seen.unsure before seen kept.bodies kept.state holds in
-    let r : Record = record_of old.sequence moment batch in
+kept_added before now old new seen done batch moment body past write was is added sure name more kept =
+    let behind = batch_behind before old batch moment body past write kept in
+    let holds : Holds seen.unsure before seen kept.bodies (state_of old) = subst (λ (l : LogState). Holds l.unsure before l kept.bodies (state_of old)) (sym was) kept.holds in
+    let left = holds_left seen.unsure before seen kept.bodies (state_of old) holds in
     record {
       bodies = kept.bodies ++ body ∷ [];
-      records = kept.records ++ r ∷ [];
-      state = with_record kept.state r;
+      records = kept.records ++ record_of old.sequence moment batch ∷ [];
       name = ap (λ (l : LogState). l.name) is ∙ name ∙ ap (λ (l : LogState). l.name) was ∙ kept.name;
-      read = more.read;
-      made = more.made;
-      rows = ap (λ (c : Rows). after c batch) kept.rows ∙ sym rows;
-      written = sym written;
-      last = sym sequence;
-      holds = subst (λ (l : LogState). Holds l.unsure now l (kept.bodies ++ body ∷ []) (with_record kept.state r)) (sym is)
-          (rests_hold done.unsure now done (kept.bodies ++ body ∷ []) (with_record kept.state r) sure (added kept.bodies left.0 left.1));
+      read = behind.read;
+      made = behind.made ∙ ap (λ (s : Recovered). Ok s) (sym more);
+      holds = subst (λ (l : LogState). Holds l.unsure now l (kept.bodies ++ body ∷ []) (state_of new)) (sym is)
+          (rests_hold done.unsure now done (kept.bodies ++ body ∷ []) (state_of new) sure (added kept.bodies left.0 left.1));
     }
-
--- a batch of commands, by the rows and the sequence that are equal
-same_commands : (a b : Rows) (moment n m : ℕ) (batch : Batch) → a ≡ b → n ≡ m → IsOfCommands a moment n batch → IsOfCommands b moment m batch
-same_commands a b moment n m batch rows sequence of =
-    subst (λ (n : ℕ). IsOfCommands b moment n batch) sequence (subst (λ (c : Rows). IsOfCommands c moment n batch) rows of)
 
 -- the body that was tried is that of this batch
 batch_tried : (disk : Disk) (old : StoreState) (batch : Batch) (moment : ℕ) (body : Bytes) → old.written ≤ old.floor → IsWrite old.sequence old.floor batch moment body
     → IsOfCommands old.rows moment old.sequence batch → (kept : IsKept disk old)
-    → IsAttempt kept.bodies body kept.state (record_of old.sequence moment batch)
+    → IsAttempt kept.bodies body (state_of old) (record_of old.sequence moment batch)
 batch_tried disk old batch moment body past write of kept =
     let more = batch_behind disk old batch moment body past write kept in
     record {
-      sequence = ap (λ (n : ℕ). n + 1) (sym kept.last);
-      later = omega (arith, kept.written, write.later);
-      of = same_commands old.rows kept.state.rows moment old.sequence kept.state.sequence batch (sym kept.rows) (sym kept.last) of;
+      sequence = refl;
+      later = omega (arith, past, write.later);
+      of = of;
       made = ap recovered_by more.read ∙ more.made;
     }
 
@@ -219,22 +208,19 @@ pub kept_left : (before now : Disk) (old new : StoreState) (seen done : LogState
     → seen ≡ old.log → new.log ≡ done
     → ((bodies : List Bytes) (tried : Bytes) → IsLeft seen.unsure before seen bodies tried
     → IsLeft done.unsure now done bodies tried ⊎ IsLeft done.unsure now done bodies body)
-    → done.name ≡ seen.name → new.rows ≡ old.rows → new.written ≡ old.written → new.sequence ≡ old.sequence
+    → done.name ≡ seen.name → state_of new ≡ state_of old
     → IsOfCommands old.rows moment old.sequence batch → IsKept before old → IsKept now new
-kept_left before now old new seen done batch moment body past write was is left name rows written sequence of kept = record {
+kept_left before now old new seen done batch moment body past write was is left name same of kept = record {
   bodies = kept.bodies;
   records = kept.records;
-  state = kept.state;
   name = ap (λ (l : LogState). l.name) is ∙ name ∙ ap (λ (l : LogState). l.name) was ∙ kept.name;
   read = kept.read;
-  made = kept.made;
-  rows = kept.rows ∙ sym rows;
-  written = kept.written ∙ sym written;
-  last = kept.last ∙ sym sequence;
-  holds = subst (λ (l : LogState). Holds l.unsure now l kept.bodies kept.state) (sym is)
-      (still_holds seen.unsure done.unsure before now seen done kept.bodies kept.state (record_of old.sequence moment batch) body
+  made = kept.made ∙ ap (λ (s : Recovered). Ok s) (sym same);
+  holds = subst (λ (s : Recovered). Holds new.log.unsure now new.log kept.bodies s) (sym same)
+      (subst (λ (l : LogState). Holds l.unsure now l kept.bodies (state_of old)) (sym is)
+      (still_holds seen.unsure done.unsure before now seen done kept.bodies (state_of old) (record_of old.sequence moment batch) body
       (batch_tried before old batch moment body past write of kept) (left kept.bodies)
-      (subst (λ (l : LogState). Holds l.unsure before l kept.bodies kept.state) (sym was) kept.holds));
+      (subst (λ (l : LogState). Holds l.unsure before l kept.bodies (state_of old)) (sym was) kept.holds)));
 }
 
 -- ---- what a crash leaves
@@ -250,44 +236,33 @@ pub leaves_more : (disk : Disk) (name : FileName) (P Q : Bytes → Type 0) → (
 leaves_more disk name P Q leads leaves = record { each = λ c image. leads c (leaves.each c image) }
 
 -- bytes with the bodies that are kept come to the rows
-kept_comes : (disk : Disk) (old : StoreState) (kept : IsKept disk old) (c : Bytes) → records c ≡ kept.bodies → ComesTo old.rows old.written c
-kept_comes disk old kept c is = record {
-  state = kept.state;
-  is = comes_to c kept.bodies kept.records kept.state is kept.read kept.made;
-  rows_are = kept.rows;
-  written_is = kept.written;
-}
+kept_comes : (disk : Disk) (old : StoreState) (kept : IsKept disk old) (c : Bytes) → records c ≡ kept.bodies → ComesTo (state_of old) c
+kept_comes disk old kept c is = comes_to c kept.bodies kept.records (state_of old) is kept.read kept.made
 
 -- at any moment of the append the log comes to the rows before, or to those after
 pub either_rows : (before now : Disk) (old : StoreState) (seen : LogState) (batch : Batch) (moment : ℕ) (body : Bytes) → old.written ≤ old.floor → IsWrite old.sequence old.floor batch moment body
     → seen ≡ old.log
     → (seen.unsure ≡ false → (bodies : List Bytes) → Rests before seen bodies → Touches seen.name before now (IsBeforeOrAfter bodies body))
     → old.log.unsure ≡ false → IsKept before old
-    → Touches log_file before now (IsEitherRows old.rows old.written (after old.rows batch) moment)
+    → Touches log_file before now (ComesToEither (state_of old) batch moment)
 either_rows before now old seen batch moment body past write was run sure kept =
     let more = batch_behind before old batch moment body past write kept in
     let rests : Rests before seen kept.bodies =
-    subst (λ (l : LogState). Rests before l kept.bodies) (sym was) (holds_rests old.log.unsure before old.log kept.bodies kept.state sure kept.holds) in
-    let r : Record = record_of old.sequence moment batch in
+    subst (λ (l : LogState). Rests before l kept.bodies) (sym was) (holds_rests old.log.unsure before old.log kept.bodies (state_of old) sure kept.holds) in
     let here : Touches log_file before now (IsBeforeOrAfter kept.bodies body) =
     subst (λ (n : FileName). Touches n before now (IsBeforeOrAfter kept.bodies body)) (ap (λ (l : LogState). l.name) was ∙ kept.name)
     (run (ap (λ (l : LogState). l.unsure) was ∙ sure) kept.bodies rests) in
-    run_weaken log_file before now (IsBeforeOrAfter kept.bodies body) (IsEitherRows old.rows old.written (after old.rows batch) moment) here (λ c is. ⊎_elim
+    run_weaken log_file before now (IsBeforeOrAfter kept.bodies body) (ComesToEither (state_of old) batch moment) here (λ c is. ⊎_elim
     (λ (e : records c ≡ kept.bodies). inl (kept_comes before old kept c e))
-    (λ (e : records c ≡ kept.bodies ++ body ∷ []). inr (record {
-      state = with_record kept.state r;
-      is = comes_to c (kept.bodies ++ body ∷ []) (kept.records ++ r ∷ []) (with_record kept.state r) e more.read more.made;
-      rows_are = ap (λ (c : Rows). after c batch) kept.rows;
-      written_is = refl;
-    }))
+    (λ (e : records c ≡ kept.bodies ++ body ∷ []). inr (comes_to c (kept.bodies ++ body ∷ []) (kept.records ++ record_of old.sequence moment batch ∷ []) (with_batch (state_of old) batch moment) e more.read more.made))
     is)
 
 -- where no call was made, it comes to the rows before
-pub still_comes : (disk : Disk) (old : StoreState) (more : Rows) (moment : ℕ) → old.log.unsure ≡ false → IsKept disk old → Touches log_file disk disk (IsEitherRows old.rows old.written more moment)
-still_comes disk old more moment sure kept =
-    let rests = holds_rests old.log.unsure disk old.log kept.bodies kept.state sure kept.holds in
-    begin_run log_file disk (IsEitherRows old.rows old.written more moment)
-    (leaves_more disk log_file (λ c. records c ≡ kept.bodies) (IsEitherRows old.rows old.written more moment) (λ c is. inl (kept_comes disk old kept c is))
+pub still_comes : (disk : Disk) (old : StoreState) (P : Bytes → Type 0) → old.log.unsure ≡ false → IsKept disk old → ((c : Bytes) → ComesTo (state_of old) c → P c) → Touches log_file disk disk P
+still_comes disk old P sure kept leads =
+    let rests = holds_rests old.log.unsure disk old.log kept.bodies (state_of old) sure kept.holds in
+    begin_run log_file disk P
+    (leaves_more disk log_file (λ c. records c ≡ kept.bodies) P (λ c is. leads c (kept_comes disk old kept c is))
     (leaves_at disk old.log.name log_file (λ c. records c ≡ kept.bodies) kept.name (rests_records disk old.log kept.bodies rests)))
 
 -- ---- an end
@@ -295,32 +270,31 @@ still_comes disk old more moment sure kept =
 -- a log that is not unsure any more leaves the rows
 pub keeps_mended : (before now : Disk) (old : StoreState) (log : LogState) → log.name ≡ old.log.name
     → ((bodies : List Bytes) (tried : Bytes) → IsLeft old.log.unsure before old.log bodies tried → Rests now log bodies)
-    → IsKept before old → Keeps now old.rows old.written
+    → IsKept before old → Keeps now old
 keeps_mended before now old log name mended kept =
-    let left = holds_left old.log.unsure before old.log kept.bodies kept.state kept.holds in
-    leaves_more now log_file (λ c. records c ≡ kept.bodies) (ComesTo old.rows old.written) (λ c is. kept_comes before old kept c is)
+    let left = holds_left old.log.unsure before old.log kept.bodies (state_of old) kept.holds in
+    leaves_more now log_file (λ c. records c ≡ kept.bodies) (ComesTo (state_of old)) (λ c is. kept_comes before old kept c is)
     (leaves_at now log.name log_file (λ c. records c ≡ kept.bodies) (name ∙ kept.name) (rests_records now log kept.bodies (mended kept.bodies left.0 left.1)))
 
--- and so the keys that they mean
-pub keeps_keys : (disk : Disk) (old : StoreState) (s : State) → StandsFor old s → Keeps disk old.rows old.written → Leaves disk log_file (ComesToKeys s.floor s.keys)
-keeps_keys disk old s stands keeps = leaves_more disk log_file (ComesTo old.rows old.written) (ComesToKeys s.floor s.keys) (stands_comes old s stands) keeps
+-- and so the keys that they hold
+pub keeps_keys : (disk : Disk) (old : StoreState) (s : State) → StandsFor old s → Keeps disk old → Leaves disk log_file (ComesToKeys s.floor s.keys)
+keeps_keys disk old s stands keeps = leaves_more disk log_file (ComesTo (state_of old)) (ComesToKeys s.floor s.keys) (stands_comes old s stands) keeps
 
 -- one that is unsure still leaves the rows, or those after the batch that was tried
 pub keeps_unsure : (before now : Disk) (old : StoreState) (log : LogState) (unsure : Bool) → old.log.unsure ≡ unsure → unsure ≡ true → log.name ≡ old.log.name
     → ((bodies : List Bytes) (tried : Bytes) → IsLeft unsure before old.log bodies tried → Wavers now log bodies tried)
-    → IsKept before old → KeepsOrMore now old.rows old.written old.sequence
+    → IsKept before old → KeepsOrMore now old
 keeps_unsure before now old log false is unsure name left kept = absurd (cc)
 keeps_unsure before now old log true is unsure name left kept =
-    let a : Attempted before old.log kept.bodies kept.state = subst (λ (b : Bool). Holds b before old.log kept.bodies kept.state) is kept.holds in
+    let a : Attempted before old.log kept.bodies (state_of old) = subst (λ (b : Bool). Holds b before old.log kept.bodies (state_of old)) is kept.holds in
     let batch : Batch = a.record_tried.batch in
     let moment : ℕ = a.record_tried.moment in
     record {
       batch = batch;
       moment = moment;
-      later = omega (arith, a.attempt.later, kept.written);
-      of = same_commands kept.state.rows old.rows moment kept.state.sequence old.sequence batch kept.rows kept.last a.attempt.of;
-      leaves = leaves_more now log_file (IsBeforeOrAfter kept.bodies a.tried)
-          (λ c. ComesTo old.rows old.written c ⊎ ComesTo (after old.rows a.record_tried.batch) a.record_tried.moment c)
+      later = a.attempt.later;
+      of = a.attempt.of;
+      leaves = leaves_more now log_file (IsBeforeOrAfter kept.bodies a.tried) (ComesToEither (state_of old) a.record_tried.batch a.record_tried.moment)
           (λ c one. ⊎_elim
           (λ (e : records c ≡ kept.bodies). inl (kept_comes before old kept c e))
           (λ (e : records c ≡ kept.bodies ++ a.tried ∷ []). inr (after_tried a c e))
@@ -328,10 +302,7 @@ keeps_unsure before now old log true is unsure name left kept =
           (leaves_at now log.name log_file (IsBeforeOrAfter kept.bodies a.tried) (name ∙ kept.name) (wavers_records now log kept.bodies a.tried (left kept.bodies a.tried a.wavers)));
     }
   where
-    after_tried : (a : Attempted before old.log kept.bodies kept.state) → (c : Bytes) → records c ≡ kept.bodies ++ a.tried ∷ [] → ComesTo (after old.rows a.record_tried.batch) a.record_tried.moment c
-    after_tried a c is = record {
-      state = with_record kept.state a.record_tried;
-      is = ap recovered_by (segment_of-records c (kept.bodies ++ a.tried ∷ []) is) ∙ a.attempt.made;
-      rows_are = ap (λ (rows : Rows). after rows a.record_tried.batch) kept.rows;
-      written_is = refl;
-    }
+    after_tried : (a : Attempted before old.log kept.bodies (state_of old)) → (c : Bytes) → records c ≡ kept.bodies ++ a.tried ∷ [] → ComesTo (with_batch (state_of old) a.record_tried.batch a.record_tried.moment) c
+    after_tried a c is =
+        ap recovered_by (segment_of-records c (kept.bodies ++ a.tried ∷ []) is) ∙ a.attempt.made
+        ∙ ap (λ (n : ℕ). Ok (record { rows = after old.rows a.record_tried.batch; floor = a.record_tried.moment; sequence = n })) a.attempt.sequence

@@ -1,5 +1,5 @@
 -- How a plan that is carried out answers as the machine does.
-use Rattle.std.proofs.Common.{◌≡◌, ⊎_elim, inl, inr, ℕ, zero, suc, ◌^◌, false, cond, Option, Some, refl, sym, ap, subst, ◌∙◌, arith}
+use Rattle.std.proofs.Common.{◌≡◌, ⊎_elim, inl, inr, ℕ, zero, suc, ◌+◌, ◌^◌, false, cond, Option, Some, refl, sym, ap, subst, ◌∙◌, arith}
 use Rattle.std.specs.Prelude.{◌==◌, if◌then◌else◌, min, max}
 use Rattle.kv_base.specs.Map.{Bytes}
 use Rattle.kv_outside.specs.Disk.{Disk, Touches}
@@ -16,13 +16,14 @@ use Rattle.lives_model.specs.Means.{Means}
 use Rattle.lives_model.specs.CleanLaws.{means_later}
 use Rattle.lives_model.specs.Joined.{after-empty, plan_means}
 use Rattle.lives_model.specs.MeansOne.{means_one}
-use Rattle.lives_model.specs.Plans.{IsPlanFor}
+use Rattle.lives_model.specs.Plans.{AreAsked, IsPlanFor}
 use Rattle.lives_model.specs.Steps.{alive_means}
-use Rattle.log_store.specs.Planned.{IsOfCommands, IsPlannedAlways}
-use Rattle.log_store.specs.Keeping.{log_file, IsKept, StoreState, StandsFor, ComesTo, ComesToKeys}
-use Rattle.log_store.specs.KeepLaws.{comes_to_keys, means_alike, stands_later, stands_mean}
-use Rattle.log_store.specs.Playing.{entry, planned_for, IsBeforeOrAfter, IsBodyOfPlan, IsEitherRows, Plays}
-use Rattle.log_store.specs.PlayLaws.{none_planned, not_none}
+use Rattle.log_store.specs.Planned.{IsOfCommands, IsPlannedNext}
+use Rattle.log_store.specs.Recover.{Recovered, with_batch}
+use Rattle.log_store.specs.Keeping.{log_file, state_of, HoldsKeys, IsKept, StoreState, StandsFor, ComesTo, ComesToEither, ComesToKeys}
+use Rattle.log_store.specs.KeepLaws.{comes_to_keys, holds_after, holds_alike, stands_later, stands_mean}
+use Rattle.log_store.specs.Playing.{entry, batches, planned_for, IsBeforeOrAfter, IsBodyOfPlan, Plays}
+use Rattle.log_store.specs.PlayLaws.{none_planned, not_none, some_batch}
 use Rattle.log_store.proofs.Appending.{kept_still, still_comes}
 
 -- ---- the moment of a call
@@ -53,7 +54,8 @@ same_kept disk old mid same kept = kept_still disk old mid same.rows same.writte
 pub record IsPlanAt (old mid : StoreState) (now : ℕ) (ds : Cmds) (b : Batch) (answer : Reply) (until : Option ℕ) (moment : ℕ) : Type 0 where
   pub same : IsSame old mid
   pub at : moment ≡ max mid.floor (min now (2 ^ 61))
-  pub planned : IsPlannedAlways mid.rows moment mid.sequence ds b answer until
+  pub asked : AreAsked ds
+  pub planned : IsPlannedNext mid.rows moment mid.sequence ds b answer until
 
 moment_is : (old mid : StoreState) (s : State) (now moment : ℕ) → IsSame old mid → StandsFor old s → moment ≡ max mid.floor (min now (2 ^ 61)) → moment ≡ moment_at s now
 moment_is old mid s now moment same stands is = is ∙ ap (λ (f : ℕ). max f (min now 2305843009213693952)) (same.floor ∙ sym stands.floor)
@@ -61,7 +63,7 @@ moment_is old mid s now moment same stands is = is ∙ ap (λ (f : ℕ). max f (
 -- the batch of a plan is one of commands
 pub of_commands : (old mid : StoreState) (now : ℕ) (ds : Cmds) (b : Batch) (answer : Reply) (until : Option ℕ) (moment : ℕ) → IsPlanAt old mid now ds b answer until moment
     → IsOfCommands mid.rows moment mid.sequence b
-of_commands old mid now ds b answer until moment plan = record { commands = ds; answer = answer; until = until; plan = plan.planned }
+of_commands old mid now ds b answer until moment plan = record { commands = ds; answer = answer; until = until; asked = plan.asked; plan = plan.planned }
 
 -- what the rows mean at the moment of a call
 means_now : (old : StoreState) (s : State) (now : ℕ) → StandsFor old s → Means old.rows (moment_at s now) (at_moment s now).keys
@@ -74,25 +76,34 @@ unfolding step
 step_is s now (One c) = refl
 step_is s now (Many cs) = refl
 
--- the plan of a call, by the state that the store stands for
-plan_for : (old mid : StoreState) (now : ℕ) (ds : Cmds) (b : Batch) (answer : Reply) (until : Option ℕ) (moment : ℕ) → IsPlanAt old mid now ds b answer until moment → (s : State) → StandsFor old s
-    → IsPlanFor old.rows (moment_at s now) old.sequence (at_moment s now).keys ds b answer until
-plan_for old mid now ds b answer until moment plan s stands =
-    let here : IsPlannedAlways old.rows (moment_at s now) old.sequence ds b answer until =
-    subst (λ (c : Rows). IsPlannedAlways c (moment_at s now) old.sequence ds b answer until) plan.same.rows
-    (subst (λ (t : ℕ). IsPlannedAlways mid.rows t old.sequence ds b answer until) (moment_is old mid s now moment plan.same stands plan.at)
-    (subst (λ (base : ℕ). IsPlannedAlways mid.rows moment base ds b answer until) plan.same.sequence plan.planned)) in
-    here.plan (at_moment s now).keys (means_now old s now stands)
+module _ (old mid : StoreState) (now : ℕ) (ds : Cmds) (b : Batch) (answer : Reply) (until : Option ℕ) (moment : ℕ) (plan : IsPlanAt old mid now ds b answer until moment) (s : State) (stands : StandsFor old s) where
+  -- the plan of a call, at the moment that the machine has
+  planned_at : IsPlannedNext old.rows (moment_at s now) old.sequence ds b answer until
+  planned_at =
+      subst (λ (c : Rows). IsPlannedNext c (moment_at s now) old.sequence ds b answer until) plan.same.rows
+      (subst (λ (t : ℕ). IsPlannedNext mid.rows t old.sequence ds b answer until) (moment_is old mid s now moment plan.same stands plan.at)
+      (subst (λ (base : ℕ). IsPlannedNext mid.rows moment base ds b answer until) plan.same.sequence plan.planned))
 
-carried : (old mid : StoreState) (now : ℕ) (ds : Cmds) (b : Batch) (answer : Reply) (until : Option ℕ) (moment : ℕ) → IsPlanAt old mid now ds b answer until moment → (s : State) → StandsFor old s
-    → (answer ≡ (fold (at_moment s now).keys (moment_at s now) ds).0) × Means (after old.rows b) (moment_at s now) (fold (at_moment s now).keys (moment_at s now) ds).1
-carried old mid now ds b answer until moment plan s stands =
-    plan_means old.rows (moment_at s now) old.sequence (at_moment s now).keys ds b answer until (means_now old s now stands) (plan_for old mid now ds b answer until moment plan s stands)
+  -- and for the keys that it has
+  plan_for : IsPlanFor old.rows (moment_at s now) old.sequence (at_moment s now).keys ds b answer until
+  plan_for = planned_at.plan (at_moment s now).keys (means_now old s now stands) stands.holds.issued
+
+  carried : (answer ≡ (fold (at_moment s now).keys (moment_at s now) ds).0) × Means (after old.rows b) (moment_at s now) (fold (at_moment s now).keys (moment_at s now) ds).1
+  carried = plan_means old.rows (moment_at s now) old.sequence (at_moment s now).keys ds b answer until (means_now old s now stands) plan_for
+
+  -- the rows after it hold the keys after the commands
+  holds_then : HoldsKeys (with_batch (state_of old) b (moment_at s now)) (fold (at_moment s now).keys (moment_at s now) ds).1
+  holds_then =
+      subst (λ (m : RedisMap). HoldsKeys (with_batch (state_of old) b (moment_at s now)) (fold m (moment_at s now) ds).1)
+      (sym (stands_later old s stands (moment_at s now) (omega (arith, stands.floor))))
+      (holds_after (state_of old) stands.at_last_batch b (moment_at s now) stands.holds (omega (arith, stands.past, stands.floor))
+      (record { commands = ds; answer = answer; until = until; asked = plan.asked; plan = planned_at }))
 
 -- a plan that was carried out answers as the machine, and leaves a store that stands for the machine's state
 pub plays : (old mid new : StoreState) (now : ℕ) (ds : Cmds) (b : Batch) (answer : Reply) (until : Option ℕ) (moment planned : ℕ) → IsPlanAt old mid now ds b answer until moment
-    → planned ≡ planned_for b → new.rows ≡ after mid.rows b → new.floor ≡ moment → new.written ≡ (if planned == 0 then mid.written else new.floor) → Plays old new now ds answer
-plays old mid new now ds b answer until moment planned plan bytes rows floor written = record {
+    → planned ≡ planned_for b → new.rows ≡ after mid.rows b → new.floor ≡ moment → new.written ≡ (if planned == 0 then mid.written else new.floor) → new.sequence ≡ mid.sequence + batches planned
+    → Plays old new now ds answer
+plays old mid new now ds b answer until moment planned plan bytes rows floor written sequence = record {
   answer = λ s stands.
       ap (λ (r : Option Reply × State). r.0) (step_is s now ds) ∙ ap (λ (r : Reply). Some r) (sym (carried old mid now ds b answer until moment plan s stands).0);
   stands = λ s stands. subst (λ (r : Option Reply × State). StandsFor new r.1) (sym (step_is s now ds)) (by_planned s stands planned refl);
@@ -112,26 +123,31 @@ plays old mid new now ds b answer until moment planned plan bytes rows floor wri
     by_planned s stands zero none =
         let same_rows : after old.rows b ≡ old.rows = ap (after old.rows) (none_planned b (sym bytes ∙ none)) ∙ after-empty old.rows in
         let same_written : new.written ≡ old.written = written ∙ ap (λ (n : ℕ). if n == 0 then mid.written else new.floor) none ∙ plan.same.written in
+        let no_batch : batches planned ≡ 0 = ap batches none in
         record {
           at_last_batch = stands.at_last_batch;
-          means = means_alike old.rows new.rows old.written new.written stands.at_last_batch (sym same_rows ∙ same) (sym same_written) stands.means;
+          holds = holds_alike old new stands.at_last_batch (sym same ∙ same_rows) same_written (omega (arith, sequence, no_batch, plan.same.sequence)) stands.holds;
           past = omega (arith, floor, same_written, stands.past, stands.floor, moment_so s stands);
           keys = means_one old.rows (moment_at s now) (after_it s).keys (alive stands.at_last_batch (moment_at s now))
               (subst (λ (c : Rows). Means c (moment_at s now) (after_it s).keys) same_rows (carried old mid now ds b answer until moment plan s stands).1)
-              (means_later old.rows old.written (moment_at s now) stands.at_last_batch (omega (arith, stands.past, stands.floor)) stands.means)
+              (means_later old.rows old.written (moment_at s now) stands.at_last_batch (omega (arith, stands.past, stands.floor)) stands.holds.means)
               ∙ ap (alive stands.at_last_batch) (sym (floor ∙ moment_so s stands));
           floor = sym (floor ∙ moment_so s stands);
           free = stands.free;
         }
     by_planned s stands (suc n) some =
-        let same_written : new.written ≡ moment = written ∙ ap (λ (n : ℕ). if n == 0 then mid.written else new.floor) some ∙ ap (λ b. cond {A = ℕ} b mid.written new.floor) (not_none (suc n) (omega arith)) ∙ floor in
-        let means : Means (after old.rows b) (moment_at s now) (after_it s).keys = (carried old mid now ds b answer until moment plan s stands).1 in
+        let now_is : new.floor ≡ moment_at s now = floor ∙ moment_so s stands in
+        let same_written : new.written ≡ new.floor = written ∙ ap (λ (n : ℕ). if n == 0 then mid.written else new.floor) some ∙ ap (λ b. cond {A = ℕ} b mid.written new.floor) (not_none (suc n) (omega arith)) in
+        let one_batch : batches planned ≡ 1 = ap batches some ∙ some_batch (suc n) (omega arith) in
+        let next : old.sequence + 1 ≡ new.sequence = omega (arith, sequence, one_batch, plan.same.sequence) in
+        let state : with_batch (state_of old) b (moment_at s now) ≡ state_of new = λ i. record { rows = same i; floor = sym (same_written ∙ now_is) i; sequence = next i } in
+        let holds : HoldsKeys (state_of new) (after_it s).keys = subst (λ (r : Recovered). HoldsKeys r (after_it s).keys) state (holds_then old mid now ds b answer until moment plan s stands) in
         record {
           at_last_batch = (after_it s).keys;
-          means = means_alike (after old.rows b) new.rows (moment_at s now) new.written (after_it s).keys same (sym (same_written ∙ moment_so s stands)) means;
-          past = omega (arith, floor, same_written);
-          keys = sym (ap (alive (after_it s).keys) (floor ∙ moment_so s stands) ∙ alive_means (after old.rows b) (moment_at s now) (after_it s).keys means);
-          floor = sym (floor ∙ moment_so s stands);
+          holds = holds;
+          past = omega (arith, same_written);
+          keys = sym (ap (alive (after_it s).keys) (sym same_written) ∙ alive_means new.rows new.written (after_it s).keys holds.means);
+          floor = sym now_is;
           free = stands.free;
         }
 
@@ -144,37 +160,39 @@ body_is_planned old mid now ds b answer until moment planned plan is s stands =
 -- ---- what a crash leaves
 
 -- a log that comes to the rows before a call comes to the keys before it
-keys_before : (old : StoreState) (s : State) (now : ℕ) → StandsFor old s → (c : Bytes) → ComesTo old.rows old.written c → ComesToKeys (moment_at s now) (at_moment s now).keys c
+keys_before : (old : StoreState) (s : State) (now : ℕ) → StandsFor old s → (c : Bytes) → ComesTo (state_of old) c → ComesToKeys (moment_at s now) (at_moment s now).keys c
 keys_before old s now stands =
-    comes_to_keys old.rows old.written (moment_at s now) stands.at_last_batch (at_moment s now).keys stands.means (omega (arith, stands.past, stands.floor))
+    comes_to_keys (state_of old) (moment_at s now) stands.at_last_batch (at_moment s now).keys stands.holds (omega (arith, stands.past, stands.floor))
     (stands_later old s stands (moment_at s now) (omega (arith, stands.floor)))
 
 -- the log comes to the keys before a call, or to those after it
 pub keys_come : (before now_disk : Disk) (old mid : StoreState) (now : ℕ) (ds : Cmds) (b : Batch) (answer : Reply) (until : Option ℕ) (moment : ℕ) → IsPlanAt old mid now ds b answer until moment
-    → (mid.log.unsure ≡ false → IsKept before mid → Touches log_file before now_disk (IsEitherRows mid.rows mid.written (after mid.rows b) moment))
+    → (mid.log.unsure ≡ false → IsKept before mid → Touches log_file before now_disk (ComesToEither (state_of mid) b moment))
     → old.log.unsure ≡ false → IsKept before old → (s : State) → StandsFor old s → Touches log_file before now_disk (IsBeforeOrAfter s now ds)
 keys_come before now_disk old mid now ds b answer until moment plan run sure kept s stands =
-    run_weaken log_file before now_disk (IsEitherRows mid.rows mid.written (after mid.rows b) moment) (IsBeforeOrAfter s now ds)
+    run_weaken log_file before now_disk (ComesToEither (state_of mid) b moment) (IsBeforeOrAfter s now ds)
     (run (ap (λ (l : LogState). l.unsure) plan.same.log ∙ sure) (same_kept before old mid plan.same kept))
-    (λ c is. ⊎_elim (λ (e : ComesTo mid.rows mid.written c). inl (first c e)) (λ (e : ComesTo (after mid.rows b) moment c). inr (second c e)) is)
+    (λ c is. ⊎_elim (λ (e : ComesTo (state_of mid) c). inl (first c e)) (λ (e : ComesTo (with_batch (state_of mid) b moment) c). inr (second c e)) is)
   where
-    first : (c : Bytes) → ComesTo mid.rows mid.written c → ComesToKeys (moment_at s now) (at_moment s now).keys c
-    first c is = keys_before old s now stands c (subst (λ (t : ℕ). ComesTo old.rows t c) plan.same.written (subst (λ (rows : Rows). ComesTo rows mid.written c) plan.same.rows is))
+    same : state_of mid ≡ state_of old
+    same = λ i. record { rows = plan.same.rows i; floor = plan.same.written i; sequence = plan.same.sequence i }
+
+    first : (c : Bytes) → ComesTo (state_of mid) c → ComesToKeys (moment_at s now) (at_moment s now).keys c
+    first c is = keys_before old s now stands c (subst (λ (r : Recovered). ComesTo r c) same is)
 
     keys : RedisMap
     keys = (fold (at_moment s now).keys (moment_at s now) ds).1
 
-    means : Means (after mid.rows b) (moment_at s now) keys
-    means = subst (λ (rows : Rows). Means (after rows b) (moment_at s now) keys) (sym plan.same.rows) (carried old mid now ds b answer until moment plan s stands).1
+    holds : HoldsKeys (with_batch (state_of old) b (moment_at s now)) keys
+    holds = holds_then old mid now ds b answer until moment plan s stands
 
-    second : (c : Bytes) → ComesTo (after mid.rows b) moment c → ComesToKeys (moment_at s now) (step s (entry now ds)).1.keys c
+    second : (c : Bytes) → ComesTo (with_batch (state_of mid) b moment) c → ComesToKeys (moment_at s now) (step s (entry now ds)).1.keys c
     second c is = subst (λ (r : Option Reply × State). ComesToKeys (moment_at s now) r.1.keys c) (sym (step_is s now ds))
-        (comes_to_keys (after mid.rows b) (moment_at s now) (moment_at s now) keys keys means (omega arith) (sym (alive_means (after mid.rows b) (moment_at s now) keys means)) c
-        (subst (λ (t : ℕ). ComesTo (after mid.rows b) t c) (moment_is old mid s now moment plan.same stands plan.at) is))
+        (comes_to_keys (with_batch (state_of old) b (moment_at s now)) (moment_at s now) keys keys holds (omega arith) (sym (alive_means (after old.rows b) (moment_at s now) keys holds.means)) c
+        (subst (λ (t : ℕ). ComesTo (with_batch (state_of old) b t) c) (moment_is old mid s now moment plan.same stands plan.at)
+        (subst (λ (r : Recovered). ComesTo (with_batch r b moment) c) same is)))
 
 -- where no call was made, to those before it
 pub keys_stay : (disk : Disk) (old : StoreState) (now : ℕ) (ds : Cmds) → old.log.unsure ≡ false → IsKept disk old → (s : State) → StandsFor old s → Touches log_file disk disk (IsBeforeOrAfter s now ds)
 keys_stay disk old now ds sure kept s stands =
-    run_weaken log_file disk disk (IsEitherRows old.rows old.written old.rows old.written) (IsBeforeOrAfter s now ds)
-    (still_comes disk old old.rows old.written sure kept)
-    (λ c is. inl (keys_before old s now stands c (⊎_elim (λ (e : ComesTo old.rows old.written c). e) (λ (e : ComesTo old.rows old.written c). e) is)))
+    still_comes disk old (IsBeforeOrAfter s now ds) sure kept (λ c comes. inl (keys_before old s now stands c comes))

@@ -17,11 +17,11 @@ use Rattle.wal_log.specs.Segments.{is_next, record_behind, with_first, records_f
 use Rattle.wal_log.specs.SegmentLaws.{last_at}
 use Rattle.wal_log.specs.declared.segment.Found.{Found}
 use Rattle.redis_model.specs.Desk.{last_sequence}
-use Rattle.kv_base.specs.declared.row.Row.{Row}
+use Rattle.row_model.specs.declared.row.Row.{Row}
 use Rattle.row_model.specs.Replays.{do_rise, last_from, rise_above, rows_after}
 use Rattle.row_model.specs.Rows.{are_upto, at}
 use Rattle.log_store.specs.Recover.{Recovered, nothing, with_record, with_records, by_records, recovered_by}
-use Rattle.log_store.specs.Keeping.{log_file, Holds, StoreState, IsOpened}
+use Rattle.log_store.specs.Keeping.{log_file, state_of, Holds, StoreState, IsOpened}
 
 -- ---- record by record
 
@@ -193,27 +193,20 @@ pub is_opened : (old middle new : Disk) (found : Found) (rs : List Record) (stor
     → (middle.reads log_file ≡ None → (bodies : List Bytes) → Rests new store.log bodies)
     → IsOpened old new store
 is_opened old middle new found rs store begins read same begun_is starts rows floor written last name sure call rests silent =
-    let made = begun begins rs begun_is starts in
+    let is : state_of store ≡ with_records nothing rs = λ i. record { rows = rows i; floor = written i; sequence = last i } in
+    let made : by_records rs ≡ Ok (state_of store) = begun begins rs begun_is starts ∙ ap (λ (r : Recovered). Ok r) (sym is) in
     let segment : segment_of read.bytes ≡ Ok rs = read.are.records ∙ ap (λ (xs : List Record). Ok xs) (sym same) in
     let log = rests_behind old middle new store.log found.end read.bytes call read.told read.are.ends rests silent in
     record {
-      state = with_records nothing rs;
       start = record { bytes = read.bytes; told = read.told; is = ap recovered_by segment ∙ made };
-      rows = sym rows;
-      floor = sym floor;
-      written = sym written;
-      sequence = sym last;
+      floor = floor ∙ sym written;
       keeps = record {
         bodies = records read.bytes;
         records = rs;
-        state = with_records nothing rs;
         name = name;
         read = bodies_are_read read.bytes rs segment;
         made = made;
-        rows = sym rows;
-        written = sym written;
-        last = sym last;
-        holds = subst (λ (b : Bool). Holds b new store.log (records read.bytes) (with_records nothing rs)) (sym sure) log;
+        holds = subst (λ (b : Bool). Holds b new store.log (records read.bytes) (state_of store)) (sym sure) log;
       };
     }
 

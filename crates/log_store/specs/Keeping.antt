@@ -8,7 +8,7 @@ use Rattle.kv_base.specs.declared.fault.StoreFault.TheVariants as fault
 use Rattle.kv_outside.specs.Causes.{Rose}
 use Rattle.kv_outside.specs.Disk.{Disk, Leaves}
 use Rattle.gated_log.specs.States.{LogState, Rests, Wavers}
-use Rattle.batch_codec.specs.Batches.{Batch, after}
+use Rattle.batch_codec.specs.Batches.{Batch}
 use Rattle.batch_codec.specs.declared.record.Record.{Record}
 use Rattle.wal_log.specs.Segments.{records_of}
 use Rattle.redis_model.specs.declared.command.Cmds.{Cmds}
@@ -16,8 +16,9 @@ use Rattle.redis_model.specs.Machine.{State, fold}
 use Rattle.redis_model.specs.Value.{RedisMap, alive}
 use Rattle.lives_model.specs.Rows.{Rows}
 use Rattle.lives_model.specs.Means.{Means}
+use Rattle.log_store.specs.Issuing.{AreIssued}
 use Rattle.log_store.specs.Planned.{IsOfCommands}
-use Rattle.log_store.specs.Recover.{Recovered, by_records, recovered_by, recovered, with_record}
+use Rattle.log_store.specs.Recover.{Recovered, by_records, recovered_by, recovered, with_batch, with_record}
 
 -- the log's only segment
 abbrev pub log_file : FileName
@@ -39,11 +40,20 @@ pub record StoreState : Type 0 where
   -- how many bytes the body has that the last call planned to write, 0 where there was nothing to write
   pub planned : ℕ
 
--- The store stands for this state of the machine: its rows mean a map at the moment of the last batch, the keys are what
--- of it is alive at the floor, and nobody has a pin.
+-- what the log of a store comes to: the rows, and the moment and the sequence of the last batch
+abbrev pub state_of : StoreState → Recovered
+state_of store = record { rows = store.rows; floor = store.written; sequence = store.sequence }
+
+-- These rows hold these keys: they mean them at the moment of the last batch, and are issued up to its sequence.
+pub record HoldsKeys (r : Recovered) (keys : RedisMap) : Type 0 where
+  pub means : Means r.rows r.floor keys
+  pub issued : AreIssued r.rows r.sequence
+
+-- The store stands for this state of the machine: its rows hold a map, the keys are what of it is alive at the floor, and
+-- nobody has a pin.
 pub record StandsFor (store : StoreState) (s : State) : Type 0 where
   pub at_last_batch : RedisMap
-  pub means : Means store.rows store.written at_last_batch
+  pub holds : HoldsKeys (state_of store) at_last_batch
   pub past : store.written ≤ store.floor
   pub keys : s.keys ≡ alive at_last_batch store.floor
   pub floor : s.floor ≡ store.floor
@@ -73,46 +83,43 @@ Holds false disk log bodies state = Rests disk log bodies
 pub record IsKept (disk : Disk) (store : StoreState) : Type 0 where
   pub bodies : List Bytes
   pub records : List Record
-  pub state : Recovered
   pub name : store.log.name ≡ log_file
   pub read : records_of bodies ≡ Ok records
-  pub made : by_records records ≡ Ok state
-  pub rows : state.rows ≡ store.rows
-  pub written : state.floor ≡ store.written
-  pub last : state.sequence ≡ store.sequence
-  pub holds : Holds store.log.unsure disk store.log bodies state
+  pub made : by_records records ≡ Ok (state_of store)
+  pub holds : Holds store.log.unsure disk store.log bodies (state_of store)
 
 -- ---- what the disk comes to
 
--- these bytes of the log come to these rows, whose last batch has this moment
-pub record ComesTo (rows : Rows) (written : ℕ) (bytes : Bytes) : Type 0 where
-  pub state : Recovered
-  pub is : recovered bytes ≡ Ok state
-  pub rows_are : state.rows ≡ rows
-  pub written_is : state.floor ≡ written
+-- these bytes of the log come to this
+abbrev pub ComesTo : Recovered → Bytes → Type 0
+ComesTo state bytes = recovered bytes ≡ Ok state
 
--- They come to rows that mean a map at the moment of their last batch. These keys are what of it is alive at this
--- moment, which is not before that one.
+-- to this, or to this after a batch of this moment
+abbrev pub ComesToEither : Recovered → Batch → ℕ → Bytes → Type 0
+ComesToEither state batch moment bytes = ComesTo state bytes ⊎ ComesTo (with_batch state batch moment) bytes
+
+-- They come to rows that hold a map. These keys are what of it is alive at this moment, which is not before that of the
+-- last batch.
 pub record ComesToKeys (moment : ℕ) (keys : RedisMap) (bytes : Bytes) : Type 0 where
   pub state : Recovered
-  pub is : recovered bytes ≡ Ok state
+  pub is : ComesTo state bytes
   pub at_last_batch : RedisMap
-  pub means : Means state.rows state.floor at_last_batch
+  pub holds : HoldsKeys state at_last_batch
   pub past : state.floor ≤ moment
   pub keys_are : keys ≡ alive at_last_batch moment
 
--- each image of the log that a crash may leave now comes to these rows, whose last batch has this moment
-abbrev pub Keeps : Disk → Rows → ℕ → Type 0
-Keeps disk rows written = Leaves disk log_file (ComesTo rows written)
+-- each image of the log that a crash may leave now comes to the rows of the store, and to its last batch
+abbrev pub Keeps : Disk → StoreState → Type 0
+Keeps disk store = Leaves disk log_file (ComesTo (state_of store))
 
 -- It comes to these rows, or to them after one batch more: one that carries commands out on them, tried at a moment that is
 -- not before that of their last batch.
-pub record KeepsOrMore (disk : Disk) (rows : Rows) (written sequence : ℕ) : Type 0 where
+pub record KeepsOrMore (disk : Disk) (store : StoreState) : Type 0 where
   pub batch : Batch
   pub moment : ℕ
-  pub later : written ≤ moment
-  pub of : IsOfCommands rows moment sequence batch
-  pub leaves : Leaves disk log_file (λ c. ComesTo rows written c ⊎ ComesTo (after rows batch) moment c)
+  pub later : store.written ≤ moment
+  pub of : IsOfCommands store.rows moment store.sequence batch
+  pub leaves : Leaves disk log_file (ComesToEither (state_of store) batch moment)
 
 -- It comes to the keys that the store stands for, or to those after commands that were tried at a moment which is not
 -- before the last batch.
@@ -128,16 +135,12 @@ pub record KeepsKeysOrMore (disk : Disk) (store : StoreState) (s : State) (stand
 pub record IsStart (disk : Disk) (state : Recovered) : Type 0 where
   pub bytes : Bytes
   pub told : (own : Bytes) → disk.reads log_file ≡ Some own → bytes ≡ own
-  pub is : recovered bytes ≡ Ok state
+  pub is : ComesTo state bytes
 
 -- The files were read, and what is kept is what the log came to. The floor is the moment of the last batch.
 pub record IsOpened (old new : Disk) (store : StoreState) : Type 0 where
-  pub state : Recovered
-  pub start : IsStart old state
-  pub rows : state.rows ≡ store.rows
-  pub floor : state.floor ≡ store.floor
-  pub written : state.floor ≡ store.written
-  pub sequence : state.sequence ≡ store.sequence
+  pub start : IsStart old (state_of store)
+  pub floor : store.floor ≡ store.written
   pub keeps : IsKept new store
 
 -- The store stands for a state that is not later than this moment, and of its keys these are alive then.

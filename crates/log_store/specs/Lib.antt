@@ -1,4 +1,5 @@
 pub mod Recover
+pub mod Issuing
 pub mod Planned
 pub mod Keeping
 pub mod KeepLaws

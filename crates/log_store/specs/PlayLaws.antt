@@ -57,6 +57,10 @@ body_fits b planned seq moment some is small = omega (arith, planned_some b (som
 
 -- ---- whether there is a batch
 
+-- where a body was planned there is one
+pub some_batch : (n : ℕ) → 0 < n → batches n ≡ 1
+some_batch n some = ap (λ (b : Bool). cond {A = ℕ} b 0 1) (not_none n some)
+
 -- one batch is written where the commands touch a key, and none where they touch none
 pub batches_are : (store : StoreState) (now : ℕ) (s : State) (ds : Cmds) (planned : ℕ) → IsBodyOfPlan store now s ds planned → batches planned ≡ batches_of s now ds
 batches_are store now s ds planned body =
@@ -66,7 +70,7 @@ batches_are store now s ds planned body =
   where
     some : (k : Bytes) (ks : List Bytes) → ((k ∷ ks ≡ []) ↔ (body.batch ≡ empty)) → (n : ℕ) → planned_for body.batch ≡ n → batches n ≡ 1
     some k ks quiet zero is = let never : k ∷ ks ≡ [] = quiet.1 (none_planned body.batch is) in absurd (cc)
-    some k ks quiet (suc n) is = ap (λ b. cond {A = ℕ} b 0 1) (not_none (suc n) (omega arith))
+    some k ks quiet (suc n) is = some_batch (suc n) (omega arith)
 
     by_keys : (ks : List Bytes) → ((ks ≡ []) ↔ (body.batch ≡ empty)) → batches (planned_for body.batch) ≡ cond (length ks == 0) 0 1
     by_keys [] quiet = ap batches (planned_none body.batch (ap size (quiet.0 refl) ∙ size-empty _))

@@ -13,11 +13,9 @@ use Rattle.redis_model.specs.declared.history.Step.TheVariants.{Call, Exec}
 use Rattle.redis_model.specs.declared.reply.Reply.{Reply}
 use Rattle.redis_model.specs.Desk.{last_sequence, longest_body}
 use Rattle.redis_model.specs.Machine.{State, step, moment_at, at_moment}
-use Rattle.lives_model.specs.Rows.{Rows}
 use Rattle.lives_model.specs.Plans.{IsPlanFor}
 use Rattle.lives_model.specs.WrittenKeys.{touched_in}
-pub use Rattle.log_store.specs.Planned.{IsPlannedAlways}
-use Rattle.log_store.specs.Keeping.{StoreState, StandsFor, ComesTo, ComesToKeys}
+use Rattle.log_store.specs.Keeping.{StoreState, StandsFor, ComesToKeys}
 
 -- the entry of one command or of several, of the only caller
 abbrev pub entry : ℕ → Cmds → Step
@@ -81,10 +79,6 @@ abbrev pub IsSized : StoreState → ℕ → State → Cmds → ℕ → Type 0
 IsSized store now s ds planned = (planned ≡ 0) ⊎ IsBodyOfPlan store now s ds planned
 
 -- ---- what a crash leaves
-
--- the log comes to the rows before, whose last batch has its moment, or to those after a batch of this moment
-abbrev pub IsEitherRows : Rows → ℕ → Rows → ℕ → Bytes → Type 0
-IsEitherRows before written after moment bytes = ComesTo before written bytes ⊎ ComesTo after moment bytes
 
 -- the log comes to the keys before the commands, or to those after them
 abbrev pub IsBeforeOrAfter : State → ℕ → Cmds → Bytes → Type 0

@@ -1,7 +1,7 @@
 -- What a log stands for: the rows that its batches come to, one after the other.
-use Rattle.std.specs.Prelude.{ℕ, ◌==◌, if◌then◌else◌, List, [], ◌∷◌, Result, Ok, Err}
+use Rattle.std.specs.Prelude.{ℕ, ◌+◌, ◌==◌, if◌then◌else◌, List, [], ◌∷◌, Result, Ok, Err}
 use Rattle.kv_base.specs.Map.{Bytes, empty}
-use Rattle.batch_codec.specs.Batches.{after}
+use Rattle.batch_codec.specs.Batches.{Batch, after}
 use Rattle.batch_codec.specs.declared.record.Record.{Record}
 use Rattle.wal_log.specs.Segments.{segment_of}
 use Rattle.lives_model.specs.Rows.{Rows}
@@ -14,6 +14,10 @@ pub record Recovered : Type 0 where
 
 abbrev pub nothing : Recovered
 nothing = record { rows = empty; floor = 0; sequence = 0 }
+
+-- after a batch of this moment, which has the next sequence
+abbrev pub with_batch : Recovered → Batch → ℕ → Recovered
+with_batch before b moment = record { rows = after before.rows b; floor = moment; sequence = before.sequence + 1 }
 
 abbrev pub with_record : Recovered → Record → Recovered
 with_record before r = record { rows = after before.rows r.batch; floor = r.moment; sequence = r.seq }

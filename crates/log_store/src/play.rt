@@ -9,17 +9,16 @@ ghost use Rattle.redis_model.specs.Machine.{State};
 ghost use Rattle.batch_codec.specs.Batches.{after, are_rows};
 ghost use Rattle.row_model.specs.Rows.{are_upto, at};
 ghost use Rattle.lives_model.specs.Plans.{AreAsked};
-ghost use Rattle.log_store.specs.Keeping.{log_file, ComesTo, IsKept, StandsFor};
-ghost use Rattle.log_store.specs.Planned.{IsOfCommands, IsPlannedAlways};
-ghost use Rattle.log_store.specs.Playing.{batches, planned_for, IsBeforeOrAfter, IsBodyOfPlan, IsEitherRows, IsSized, IsUnchanged, IsWrite, PlayFails, Plays};
+ghost use Rattle.log_store.specs.Keeping.{log_file, state_of, ComesToEither, IsKept, StandsFor};
+ghost use Rattle.log_store.specs.Planned.{IsOfCommands, IsPlannedNext};
+ghost use Rattle.log_store.specs.Playing.{batches, planned_for, IsBeforeOrAfter, IsBodyOfPlan, IsSized, IsUnchanged, IsWrite, PlayFails, Plays};
 
-use crate::planner::StepPlanner;
 use crate::store::LogStore;
 use crate::view::TableView;
 use batch_codec::{Batch, encode_record};
 use kv_base::NoMem;
 use kv_outside::{Failed, Files};
-use lives_model::Plan;
+use lives_model::{Plan, Planner};
 use mem_table::MemTable;
 use record_body::RecordBody;
 use redis_model::{Cmds, DeskFault, MAX_READING, Reply};
@@ -77,7 +76,8 @@ impl<F: Files> LogStore<F> {
     }
 
     /// The plan of commands on the rows. The view is one of memory, so want of memory is its only fault.
-    fn plan<P: StepPlanner>(
+    #[tactic(auto, using(lives_model::specs::Views::reading, crate::specs::Planned::planned_next))]
+    fn plan<P: Planner>(
         &self,
         alloc: Global,
         planner: &P,
@@ -86,7 +86,7 @@ impl<F: Files> LogStore<F> {
     ) -> Result<Plan, NoMem>
         requires asked { AreAsked commands.now }
         requires plans { P.plans commands.now }
-        ensures { IfOk result (λ plan. IsPlannedAlways self.now.rows moment self.now.sequence commands.now plan.batch plan.reply plan.until) }
+        ensures { IfOk result (λ plan. IsPlannedNext self.now.rows moment self.now.sequence commands.now plan.batch plan.reply plan.until) }
     {
         let mut view = TableView {
             table: &self.table,
@@ -148,7 +148,7 @@ impl<F: Files> LogStore<F> {
         ensures kept { IsOfCommands self.old.rows moment self.old.sequence batch.now
             → IsKept (F.disk files.old) self.old → IsKept (F.disk files.new) self.new }
         ensures any_moment { self.old.log.unsure ≡ false → IsKept (F.disk files.old) self.old
-            → Touches log_file (F.disk files.old) (F.disk files.new) (IsEitherRows self.old.rows self.old.written (after self.old.rows batch.now) moment) }
+            → Touches log_file (F.disk files.old) (F.disk files.new) (ComesToEither (state_of self.old) batch.now moment) }
     {
         self.planned = bytes_of(batch);
         if self.planned == 0 {
@@ -170,7 +170,7 @@ impl<F: Files> LogStore<F> {
     /// After a fault the rows are as before. `IoError`: a call to the files failed, and a crash may leave the batch in the
     /// log or not, until the next one is added or the store is closed. `SeqFull`: something was to be written, and no
     /// sequence is left. `TooBig`: the batch is longer than a record can be. `NoMem`: want of memory.
-    pub fn play<P: StepPlanner>(
+    pub fn play<P: Planner>(
         &mut self,
         alloc: Global,
         files: &mut F,

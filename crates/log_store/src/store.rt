@@ -61,10 +61,10 @@ impl<F: Files> LogStore<F> {
     /// It fails where a call to the files failed. Then a crash may leave the rows as they are, or after the batch that was
     /// tried.
     pub fn close(&mut self, files: &mut F) -> Result<(), Failed>
-        ensures kept { OnOk result (IsKept (F.disk files.old) self.old → Keeps (F.disk files.new) self.old.rows self.old.written) }
+        ensures kept { OnOk result (IsKept (F.disk files.old) self.old → Keeps (F.disk files.new) self.old) }
         ensures keys { OnOk result (IsKept (F.disk files.old) self.old → (s : State) → StandsFor self.old s
             → Leaves (F.disk files.new) log_file (ComesToKeys s.floor s.keys)) }
-        ensures kept_or_more { OnErr result (IsKept (F.disk files.old) self.old → KeepsOrMore (F.disk files.new) self.old.rows self.old.written self.old.sequence) }
+        ensures kept_or_more { OnErr result (IsKept (F.disk files.old) self.old → KeepsOrMore (F.disk files.new) self.old) }
         ensures unchanged { IsUnchanged self.old self.new }
         ensures cause { HasCause (F.faults files.old) (F.faults files.new) result }
     {

@@ -1,5 +1,3 @@
-ghost use Rattle.std.specs.Prelude.{◌≡◌};
-
 use crate::page::first_rows;
 use kv_base::{Blob, StoreFault};
 use lives_model::{LiveRows, RawView};
@@ -14,16 +12,10 @@ pub struct TableView<'a> {
 }
 
 impl RawView for TableView<'_> {
-    ghost use Rattle.std.specs.Prelude.{[], false, Some};
     ghost use Rattle.row_model.specs.Rows.{at};
+    ghost use Rattle.lives_model.specs.Views.{in_memory};
 
-    ghost rows = { λ view. Some (at view.table.now view.sequence) };
-
-    ghost faults = { λ _. 0 };
-
-    ghost off = { λ _ _ _. false };
-
-    ghost loans = { λ _. [] };
+    ghost told = { λ view. in_memory (at view.table.now view.sequence) };
 
     fn get(&mut self, alloc: Global, raw: &[u8]) -> Result<Option<Blob>, StoreFault> {
         let Some(row) = self.table.find(raw, self.sequence) else {

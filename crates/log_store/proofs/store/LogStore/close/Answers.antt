@@ -22,7 +22,7 @@ was_unsure false after idle is = sym (idle refl) ∙ is
 pub returns-clause-kept : goal.returns-clause-kept
 returns-clause-kept g c =
     let old : StoreState = record { rows = at c.self.inside.table c.self.inside.sequence; floor = c.self.inside.floor; written = c.self.inside.written; log = c.self.inside.log; sequence = c.self.inside.sequence; planned = c.self.inside.planned } in
-    subst (λ (s : StoreState). OnOk c.mend.result (IsKept (g.F.Files.disk c.args.files.now) s → Keeps (g.F.Files.disk c.mend.new.files) s.rows s.written)) c.self.view_is
+    subst (λ (s : StoreState). OnOk c.mend.result (IsKept (g.F.Files.disk c.args.files.now) s → Keeps (g.F.Files.disk c.mend.new.files) s)) c.self.view_is
     (on_ok c.mend.result (keeps_mended (g.F.Files.disk c.args.files.now) (g.F.Files.disk c.mend.new.files) old c.mend.new.self c.mend.ensures.name) c.mend.ensures.mended)
 
 pub returns-clause-keys : goal.returns-clause-keys
@@ -32,7 +32,7 @@ returns-clause-keys g c =
 pub returns-clause-kept_or_more : goal.returns-clause-kept_or_more
 returns-clause-kept_or_more g c =
     let old : StoreState = record { rows = at c.self.inside.table c.self.inside.sequence; floor = c.self.inside.floor; written = c.self.inside.written; log = c.self.inside.log; sequence = c.self.inside.sequence; planned = c.self.inside.planned } in
-    subst (λ (s : StoreState). OnErr c.mend.result (IsKept (g.F.Files.disk c.args.files.now) s → KeepsOrMore (g.F.Files.disk c.mend.new.files) s.rows s.written s.sequence)) c.self.view_is
+    subst (λ (s : StoreState). OnErr c.mend.result (IsKept (g.F.Files.disk c.args.files.now) s → KeepsOrMore (g.F.Files.disk c.mend.new.files) s)) c.self.view_is
     (on_err c.mend.result
     (λ unsure. keeps_unsure (g.F.Files.disk c.args.files.now) (g.F.Files.disk c.mend.new.files) old c.mend.new.self c.self.inside.log.unsure refl
     (was_unsure c.self.inside.log.unsure c.mend.new.self.unsure (λ sure. ap (λ (l : LogState). l.unsure) (c.mend.ensures.idle sure).1) unsure) c.mend.ensures.name)

@@ -1,11 +1,10 @@
-use Rattle.std.proofs.Common.{rules, ◌≡◌, ◌+◌, false, refl, sym, ap, subst, ◌∙◌, arith}
+use Rattle.std.proofs.Common.{rules, inl, ◌≡◌, ◌+◌, false, refl, sym, ap, subst, ◌∙◌, arith}
 use Rattle.kv_outside.specs.Disk.{Touches}
 use Rattle.batch_codec.specs.Batches.{after}
 use Rattle.row_model.specs.Rows.{at}
 use Rattle.lives_model.specs.Joined.{after-empty}
-use Rattle.log_store.specs.Keeping.{log_file, IsKept, StoreState}
+use Rattle.log_store.specs.Keeping.{log_file, state_of, ComesToEither, IsKept, StoreState}
 use Rattle.log_store.specs.Planned.{IsOfCommands}
-use Rattle.log_store.specs.Playing.{IsEitherRows}
 use Rattle.log_store.proofs.Appending.{either_rows, kept_added, kept_left, kept_still, still_comes}
 use Rattle.log_store.specs.PlayLaws.{none_planned}
 use Rattle.log_store.proofs.store.LogStore.commit.Goals as goal
@@ -24,7 +23,7 @@ returns-then-self-eq0-clause-kept g c = λ of.
 
 pub returns-then-self-eq0-clause-any_moment : goal.returns-then-self-eq0-clause-any_moment
 returns-then-self-eq0-clause-any_moment g c = λ sure kept.
-    still_comes (g.F.Files.disk c.args.files.now) c.args.self.now (after c.args.self.now.rows c.args.batch.now) c.args.moment sure kept
+    still_comes (g.F.Files.disk c.args.files.now) c.args.self.now (ComesToEither (state_of c.args.self.now) c.args.batch.now c.args.moment) sure kept (λ bytes comes. inl comes)
 
 -- ---- where nothing was written
 
@@ -40,7 +39,7 @@ returns-in_err-table-clause-kept g c = λ of.
 
 pub returns-in_err-table-clause-any_moment : goal.returns-in_err-table-clause-any_moment
 returns-in_err-table-clause-any_moment g c = λ sure kept.
-    still_comes (g.F.Files.disk c.args.files.now) c.args.self.now (after c.args.self.now.rows c.args.batch.now) c.args.moment sure kept
+    still_comes (g.F.Files.disk c.args.files.now) c.args.self.now (ComesToEither (state_of c.args.self.now) c.args.batch.now c.args.moment) sure kept (λ bytes comes. inl comes)
 
 -- ---- where the append failed
 
@@ -50,13 +49,13 @@ returns-in_err-append-clause-kept g c =
     let new : StoreState = record { rows = at c.self.inside.table c.self.inside.sequence; floor = c.self.inside.floor; written = c.self.inside.written; log = c.append.new.log; sequence = c.self.inside.sequence; planned = c.bytes_of-self-inside.result } in
     subst (λ (s : StoreState). IsOfCommands s.rows c.args.moment s.sequence c.args.batch.now → IsKept (g.F.Files.disk c.args.files.now) s → IsKept (g.F.Files.disk c.append.new.files) new) c.self.view_is
     (kept_left (g.F.Files.disk c.args.files.now) (g.F.Files.disk c.append.new.files) old new c.self.inside.log c.append.new.log
-    c.args.batch.now c.args.moment c.in_ok-table.field-0.body (omega arith) c.in_ok-table.ensures.write refl refl c.in_err-append.ensures.left c.append.ensures.name refl refl refl)
+    c.args.batch.now c.args.moment c.in_ok-table.field-0.body (omega arith) c.in_ok-table.ensures.write refl refl c.in_err-append.ensures.left c.append.ensures.name refl)
 
 pub returns-in_err-append-clause-any_moment : goal.returns-in_err-append-clause-any_moment
 returns-in_err-append-clause-any_moment g c =
     let old : StoreState = record { rows = at c.self.inside.table c.self.inside.sequence; floor = c.self.inside.floor; written = c.self.inside.written; log = c.self.inside.log; sequence = c.self.inside.sequence; planned = c.self.inside.planned } in
     subst (λ (s : StoreState). s.log.unsure ≡ false → IsKept (g.F.Files.disk c.args.files.now) s
-    → Touches log_file (g.F.Files.disk c.args.files.now) (g.F.Files.disk c.append.new.files) (IsEitherRows s.rows s.written (after s.rows c.args.batch.now) c.args.moment)) c.self.view_is
+    → Touches log_file (g.F.Files.disk c.args.files.now) (g.F.Files.disk c.append.new.files) (ComesToEither (state_of s) c.args.batch.now c.args.moment)) c.self.view_is
     (either_rows (g.F.Files.disk c.args.files.now) (g.F.Files.disk c.append.new.files) old c.self.inside.log
     c.args.batch.now c.args.moment c.in_ok-table.field-0.body (omega arith) c.in_ok-table.ensures.write refl c.append.ensures.any_moment)
 
@@ -69,12 +68,12 @@ returns-clause-kept g c = λ of.
     subst (λ (s : StoreState). IsKept (g.F.Files.disk c.args.files.now) s → IsKept (g.F.Files.disk c.append.new.files) new) c.self.view_is
     (kept_added (g.F.Files.disk c.args.files.now) (g.F.Files.disk c.append.new.files) old new c.self.inside.log c.append.new.log
     c.args.batch.now c.args.moment c.in_ok-table.field-0.body (omega arith) c.in_ok-table.ensures.write refl refl c.in_ok-append.ensures.added c.in_ok-append.ensures.sure c.append.ensures.name
-    c.in_ok-table.ensures.rows refl refl)
+    (λ i. record { rows = c.in_ok-table.ensures.rows i; floor = c.args.moment; sequence = c.self.inside.sequence + 1 }))
 
 pub returns-clause-any_moment : goal.returns-clause-any_moment
 returns-clause-any_moment g c =
     let old : StoreState = record { rows = at c.self.inside.table c.self.inside.sequence; floor = c.self.inside.floor; written = c.self.inside.written; log = c.self.inside.log; sequence = c.self.inside.sequence; planned = c.self.inside.planned } in
     subst (λ (s : StoreState). s.log.unsure ≡ false → IsKept (g.F.Files.disk c.args.files.now) s
-    → Touches log_file (g.F.Files.disk c.args.files.now) (g.F.Files.disk c.append.new.files) (IsEitherRows s.rows s.written (after s.rows c.args.batch.now) c.args.moment)) c.self.view_is
+    → Touches log_file (g.F.Files.disk c.args.files.now) (g.F.Files.disk c.append.new.files) (ComesToEither (state_of s) c.args.batch.now c.args.moment)) c.self.view_is
     (either_rows (g.F.Files.disk c.args.files.now) (g.F.Files.disk c.append.new.files) old c.self.inside.log
     c.args.batch.now c.args.moment c.in_ok-table.field-0.body (omega arith) c.in_ok-table.ensures.write refl c.append.ensures.any_moment)

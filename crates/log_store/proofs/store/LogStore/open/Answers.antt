@@ -16,7 +16,8 @@ invariant_of-result g c =
 
 pub returns-clause-opened : goal.returns-clause-opened
 returns-clause-opened g c =
+    let rows = replayed_rows c.as_slice-records.result.now c.in_ok-table.table c.last_sequence_of-sequence.result c.last_sequence_of-sequence.ensures c.in_ok-table.ensures.shows in
     is_opened (g.F.Files.disk c.args.files.now) (g.F.Files.disk c.read_all.new.files) (g.F.Files.disk c.resume.new.files) c.in_ok-found.found c.as_slice-records.result.now _ c.begins_with_one.result
     c.in_ok-found.ensures.reads c.as_slice-records.ensures c.begins_with_one.ensures c.if-not-begins_with_one.false
-    (replayed_rows c.as_slice-records.result.now c.in_ok-table.table c.last_sequence_of-sequence.result c.last_sequence_of-sequence.ensures c.in_ok-table.ensures.shows) c.last_moment_of-floor.ensures c.last_moment_of-floor.ensures c.last_sequence_of-sequence.ensures
+    rows c.last_moment_of-floor.ensures c.last_moment_of-floor.ensures c.last_sequence_of-sequence.ensures
     c.in-Ok.ensures.name c.in-Ok.ensures.sure c.in_ok-found.ensures.disk c.in-Ok.ensures.rests c.in-Ok.ensures.untold

@@ -29,7 +29,7 @@ returns-in_err-commit-clause-sized g c =
     let mid : StoreState = record { rows = at c.self.inside.table c.self.inside.sequence; floor = c.self.inside.floor; written = c.self.inside.written; log = c.self.inside.log; sequence = c.self.inside.sequence; planned = 0 } in
     let same : IsSame c.args.self.now mid = same_but_planned c.args.self.now mid.rows mid.floor mid.written mid.log mid.sequence c.self.inside.planned 0 c.self.view_is in
     let plan : IsPlanAt c.args.self.now mid c.args.now c.args.commands.now c.in_ok-plan.plan.batch c.in_ok-plan.plan.reply c.in_ok-plan.plan.until c.moment_at-moment.result =
-    record { same = same; at = c.moment_at-moment.ensures.moment; planned = c.in_ok-plan.ensures } in
+    record { same = same; at = c.moment_at-moment.ensures.moment; asked = c.requires.asked; planned = c.in_ok-plan.ensures } in
     anyway c.from_residual-in_err-commit.result (λ s stands. inr (body_is_planned c.args.self.now mid c.args.now c.args.commands.now c.in_ok-plan.plan.batch c.in_ok-plan.plan.reply c.in_ok-plan.plan.until c.moment_at-moment.result c.commit.new.self.planned plan c.commit.ensures.planned s stands))
 
 pub returns-in_err-commit-clause-kept : goal.returns-in_err-commit-clause-kept
@@ -37,7 +37,7 @@ returns-in_err-commit-clause-kept g c =
     let mid : StoreState = record { rows = at c.self.inside.table c.self.inside.sequence; floor = c.self.inside.floor; written = c.self.inside.written; log = c.self.inside.log; sequence = c.self.inside.sequence; planned = 0 } in
     let same : IsSame c.args.self.now mid = same_but_planned c.args.self.now mid.rows mid.floor mid.written mid.log mid.sequence c.self.inside.planned 0 c.self.view_is in
     let plan : IsPlanAt c.args.self.now mid c.args.now c.args.commands.now c.in_ok-plan.plan.batch c.in_ok-plan.plan.reply c.in_ok-plan.plan.until c.moment_at-moment.result =
-    record { same = same; at = c.moment_at-moment.ensures.moment; planned = c.in_ok-plan.ensures } in
+    record { same = same; at = c.moment_at-moment.ensures.moment; asked = c.requires.asked; planned = c.in_ok-plan.ensures } in
     λ kept. c.commit.ensures.kept
     (of_commands c.args.self.now mid c.args.now c.args.commands.now c.in_ok-plan.plan.batch c.in_ok-plan.plan.reply c.in_ok-plan.plan.until c.moment_at-moment.result plan)
     (same_kept (g.F.Files.disk c.args.files.now) c.args.self.now mid same kept)
@@ -47,7 +47,7 @@ returns-in_err-commit-clause-any_moment g c =
     let mid : StoreState = record { rows = at c.self.inside.table c.self.inside.sequence; floor = c.self.inside.floor; written = c.self.inside.written; log = c.self.inside.log; sequence = c.self.inside.sequence; planned = 0 } in
     let same : IsSame c.args.self.now mid = same_but_planned c.args.self.now mid.rows mid.floor mid.written mid.log mid.sequence c.self.inside.planned 0 c.self.view_is in
     let plan : IsPlanAt c.args.self.now mid c.args.now c.args.commands.now c.in_ok-plan.plan.batch c.in_ok-plan.plan.reply c.in_ok-plan.plan.until c.moment_at-moment.result =
-    record { same = same; at = c.moment_at-moment.ensures.moment; planned = c.in_ok-plan.ensures } in
+    record { same = same; at = c.moment_at-moment.ensures.moment; asked = c.requires.asked; planned = c.in_ok-plan.ensures } in
     keys_come (g.F.Files.disk c.args.files.now) (g.F.Files.disk c.commit.new.files) c.args.self.now mid c.args.now c.args.commands.now c.in_ok-plan.plan.batch c.in_ok-plan.plan.reply c.in_ok-plan.plan.until c.moment_at-moment.result plan c.commit.ensures.any_moment
 
 -- ---- where it was
@@ -57,16 +57,16 @@ returns-clause-ok g c =
     let mid : StoreState = record { rows = at c.self.inside.table c.self.inside.sequence; floor = c.self.inside.floor; written = c.self.inside.written; log = c.self.inside.log; sequence = c.self.inside.sequence; planned = 0 } in
     let same : IsSame c.args.self.now mid = same_but_planned c.args.self.now mid.rows mid.floor mid.written mid.log mid.sequence c.self.inside.planned 0 c.self.view_is in
     let plan : IsPlanAt c.args.self.now mid c.args.now c.args.commands.now c.in_ok-plan.plan.batch c.in_ok-plan.plan.reply c.in_ok-plan.plan.until c.moment_at-moment.result =
-    record { same = same; at = c.moment_at-moment.ensures.moment; planned = c.in_ok-plan.ensures } in
+    record { same = same; at = c.moment_at-moment.ensures.moment; asked = c.requires.asked; planned = c.in_ok-plan.ensures } in
     plays c.args.self.now mid c.commit.new.self c.args.now c.args.commands.now c.in_ok-plan.plan.batch c.in_ok-plan.plan.reply c.in_ok-plan.plan.until c.moment_at-moment.result c.commit.new.self.planned plan
-    c.commit.ensures.planned c.in_ok-commit.ensures.rows c.in_ok-commit.ensures.floor c.in_ok-commit.ensures.written
+    c.commit.ensures.planned c.in_ok-commit.ensures.rows c.in_ok-commit.ensures.floor c.in_ok-commit.ensures.written c.in_ok-commit.ensures.sequence
 
 pub returns-clause-body : goal.returns-clause-body
 returns-clause-body g c =
     let mid : StoreState = record { rows = at c.self.inside.table c.self.inside.sequence; floor = c.self.inside.floor; written = c.self.inside.written; log = c.self.inside.log; sequence = c.self.inside.sequence; planned = 0 } in
     let same : IsSame c.args.self.now mid = same_but_planned c.args.self.now mid.rows mid.floor mid.written mid.log mid.sequence c.self.inside.planned 0 c.self.view_is in
     let plan : IsPlanAt c.args.self.now mid c.args.now c.args.commands.now c.in_ok-plan.plan.batch c.in_ok-plan.plan.reply c.in_ok-plan.plan.until c.moment_at-moment.result =
-    record { same = same; at = c.moment_at-moment.ensures.moment; planned = c.in_ok-plan.ensures } in
+    record { same = same; at = c.moment_at-moment.ensures.moment; asked = c.requires.asked; planned = c.in_ok-plan.ensures } in
     λ s stands. body_is_planned c.args.self.now mid c.args.now c.args.commands.now c.in_ok-plan.plan.batch c.in_ok-plan.plan.reply c.in_ok-plan.plan.until c.moment_at-moment.result c.commit.new.self.planned plan c.commit.ensures.planned s stands
 
 pub returns-clause-kept : goal.returns-clause-kept
@@ -74,7 +74,7 @@ returns-clause-kept g c =
     let mid : StoreState = record { rows = at c.self.inside.table c.self.inside.sequence; floor = c.self.inside.floor; written = c.self.inside.written; log = c.self.inside.log; sequence = c.self.inside.sequence; planned = 0 } in
     let same : IsSame c.args.self.now mid = same_but_planned c.args.self.now mid.rows mid.floor mid.written mid.log mid.sequence c.self.inside.planned 0 c.self.view_is in
     let plan : IsPlanAt c.args.self.now mid c.args.now c.args.commands.now c.in_ok-plan.plan.batch c.in_ok-plan.plan.reply c.in_ok-plan.plan.until c.moment_at-moment.result =
-    record { same = same; at = c.moment_at-moment.ensures.moment; planned = c.in_ok-plan.ensures } in
+    record { same = same; at = c.moment_at-moment.ensures.moment; asked = c.requires.asked; planned = c.in_ok-plan.ensures } in
     λ kept. c.commit.ensures.kept
     (of_commands c.args.self.now mid c.args.now c.args.commands.now c.in_ok-plan.plan.batch c.in_ok-plan.plan.reply c.in_ok-plan.plan.until c.moment_at-moment.result plan)
     (same_kept (g.F.Files.disk c.args.files.now) c.args.self.now mid same kept)
@@ -84,5 +84,5 @@ returns-clause-any_moment g c =
     let mid : StoreState = record { rows = at c.self.inside.table c.self.inside.sequence; floor = c.self.inside.floor; written = c.self.inside.written; log = c.self.inside.log; sequence = c.self.inside.sequence; planned = 0 } in
     let same : IsSame c.args.self.now mid = same_but_planned c.args.self.now mid.rows mid.floor mid.written mid.log mid.sequence c.self.inside.planned 0 c.self.view_is in
     let plan : IsPlanAt c.args.self.now mid c.args.now c.args.commands.now c.in_ok-plan.plan.batch c.in_ok-plan.plan.reply c.in_ok-plan.plan.until c.moment_at-moment.result =
-    record { same = same; at = c.moment_at-moment.ensures.moment; planned = c.in_ok-plan.ensures } in
+    record { same = same; at = c.moment_at-moment.ensures.moment; asked = c.requires.asked; planned = c.in_ok-plan.ensures } in
     keys_come (g.F.Files.disk c.args.files.now) (g.F.Files.disk c.commit.new.files) c.args.self.now mid c.args.now c.args.commands.now c.in_ok-plan.plan.batch c.in_ok-plan.plan.reply c.in_ok-plan.plan.until c.moment_at-moment.result plan c.commit.ensures.any_moment
