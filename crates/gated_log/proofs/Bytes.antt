@@ -1,13 +1,26 @@
 -- What writes make of the bytes of a gated file.
 use Rattle.std.proofs.Common.{◌≡◌, ◌≢◌, ◌⊎◌, inl, inr, ℕ, ◌+◌, ◌<◌, ◌≤◌, ◌^◌, min, List, [], ◌∷◌, ◌++◌, length, get_or, take, drop, refl, sym, ◌∙◌, ap, subst, arith, append_assoc, length-append, take-append-drop}
-use Rattle.std.proofs.lemmas.List.{take_at, drop_at, drop_more, drop-drop}
+use Rattle.std.proofs.lemmas.List.{take_at, drop_at, drop_more, drop-drop, length-take-le}
 use Rattle.std.proofs.lemmas.Bool.{cases_eq}
 use Rattle.kv_outside.specs.Files.{Holds, Torn}
 use Rattle.kv_outside.specs.Told.{holds_at, torn_behind}
 use Rattle.kv_base.specs.Fields.{text}
 use Rattle.record_body.specs.Framed.{framed}
 use Rattle.gated_log.specs.Gated.{records, gated, EndsAt, IsShut, IsTried, HasShutGate, HasNoShutGate}
-use Rattle.gated_log.specs.Records.{gated-push, end_none, end_more, records_shut, small_records}
+use Rattle.gated_log.specs.Records.{tail_at, gated-push, end_none, end_more, records_shut, small_records}
+
+-- these bytes stand at this place
+pub record Written (at : ℕ) (bytes file : List ℕ) : Type 0 where
+  pub behind : List ℕ
+  pub is : drop at file ≡ bytes ++ behind
+
+pub held_written : (at : ℕ) (bytes d c : List ℕ) → at ≤ length d → Holds at bytes d c → Written at bytes c
+held_written at bytes d c within holds =
+    let front = take at d in
+    let rest = drop (length bytes) (drop at d) in
+    let long : length front ≡ at = length-take-le at d within in
+    let is : c ≡ front ++ (bytes ++ rest) = holds_at at front (drop at d) bytes d c (sym (take-append-drop at d)) long holds in
+    record { behind = rest; is = ap (λ (l : List ℕ). drop at l) is ∙ drop_at front (bytes ++ rest) at long }
 
 not_open : (gate : ℕ) → gate ≡ 0 → gate ≢ 1
 not_open gate shut same = absurd (omega arith)
@@ -23,18 +36,16 @@ torn_shut end at n bodies d c behind shut torn =
     record { at = shut.at; gate = shut.gate; rest = new.0; closed = shut.closed; is = new.1 ∙ append_assoc (gated bodies) (shut.gate ∷ []) new.0 }
 
 -- a framed body that stands behind the gate
-pub held_framed : (end : ℕ) (bodies : List (List ℕ)) (body bytes d c : List ℕ) → bytes ≡ framed body → length body < 2 ^ 32 → IsShut end bodies d → Holds (end + 1) bytes d c → IsTried end bodies body c
-held_framed end bodies body bytes d c frame fits shut holds =
-    let front = gated bodies ++ shut.gate ∷ [] in
-    let split : d ≡ front ++ shut.rest = shut.is ∙ sym (append_assoc (gated bodies) (shut.gate ∷ []) shut.rest) in
-    let new = holds_at (end + 1) front shut.rest bytes d c split (omega (arith, shut.at.place, length-append (gated bodies) (shut.gate ∷ []))) holds in
-    let rest = drop (length bytes) shut.rest in
+pub written_framed : (end : ℕ) (bodies : List (List ℕ)) (body bytes c : List ℕ) → bytes ≡ framed body → length body < 2 ^ 32 → IsShut end bodies c → Written (end + 1) bytes c → IsTried end bodies body c
+written_framed end bodies body bytes c frame fits shut written =
+    let split : c ≡ (gated bodies ++ shut.gate ∷ []) ++ shut.rest = shut.is ∙ sym (append_assoc (gated bodies) (shut.gate ∷ []) shut.rest) in
+    let stands : drop (end + 1) c ≡ shut.rest = ap (λ (l : List ℕ). drop (end + 1) l) split ∙ drop_at (gated bodies ++ shut.gate ∷ []) shut.rest (end + 1) (omega (arith, shut.at.place, length-append (gated bodies) (shut.gate ∷ []))) in
     record {
       at = shut.at;
       fits = fits;
       gate = shut.gate;
-      rest = rest;
-      is = new ∙ append_assoc (gated bodies) (shut.gate ∷ []) (bytes ++ rest) ∙ ap (λ (l : List ℕ). gated bodies ++ shut.gate ∷ (l ++ rest)) frame;
+      rest = written.behind;
+      is = shut.is ∙ ap (λ (l : List ℕ). gated bodies ++ shut.gate ∷ l) (sym stands ∙ written.is) ∙ ap (λ (l : List ℕ). gated bodies ++ shut.gate ∷ (l ++ written.behind)) frame;
     }
 
 -- ---- the gate
@@ -57,42 +68,43 @@ torn_gate end bodies body d c tried torn =
       is = sym (take-append-drop end c) ∙ ap (λ (l : List ℕ). l ++ drop end c) front ∙ ap (λ (l : List ℕ). gated bodies ++ l) behind;
     }
 
-held_gate : (end gate : ℕ) (bodies : List (List ℕ)) (body d c : List ℕ) (tried : IsTried end bodies body d) → Holds end (gate ∷ []) d c → c ≡ gated bodies ++ gate ∷ (framed body ++ tried.rest)
-held_gate end gate bodies body d c tried holds = holds_at end (gated bodies) (tried.gate ∷ (framed body ++ tried.rest)) (gate ∷ []) d c tried.is (sym tried.at.place) holds
+-- the gate that was written is the one that stands there
+gate_is : (end gate : ℕ) (bodies : List (List ℕ)) (body c : List ℕ) (tried : IsTried end bodies body c) → Written end (gate ∷ []) c → tried.gate ≡ gate
+gate_is end gate bodies body c tried written =
+    first tried.gate gate (framed body ++ tried.rest) written.behind
+    (sym (ap (λ (l : List ℕ). drop end l) tried.is ∙ drop_at (gated bodies) (tried.gate ∷ (framed body ++ tried.rest)) end (sym tried.at.place)) ∙ written.is)
+  where
+    first : (a b : ℕ) (x y : List ℕ) → a ∷ x ≡ b ∷ y → a ≡ b
+    first a b x y same = cc
 
 -- the gate that was opened, and the gate that was closed again
-pub opened : (end : ℕ) (bodies : List (List ℕ)) (body d c : List ℕ) → IsTried end bodies body d → Holds end (1 ∷ []) d c → IsShut (end + 5 + length body) (bodies ++ body ∷ []) c
+pub opened : (end : ℕ) (bodies : List (List ℕ)) (body c : List ℕ) → IsTried end bodies body c → Written end (1 ∷ []) c → IsShut (end + 5 + length body) (bodies ++ body ∷ []) c
 unfolding framed
-opened end bodies body d c tried holds = record {
+opened end bodies body c tried written = record {
   at = end_more end bodies body tried.at tried.fits;
   gate = 0;
   rest = tried.rest;
   closed = not_open 0 refl;
-  is = held_gate end 1 bodies body d c tried holds
+  is = tried.is
+      ∙ ap (λ (gate : ℕ). gated bodies ++ gate ∷ (framed body ++ tried.rest)) (gate_is end 1 bodies body c tried written)
       ∙ ap (λ (l : List ℕ). gated bodies ++ 1 ∷ l) (append_assoc (text body) (0 ∷ []) tried.rest)
       ∙ sym (gated-push bodies body (0 ∷ tried.rest));
 }
 
-pub closed_again : (end : ℕ) (bodies : List (List ℕ)) (body d c : List ℕ) → IsTried end bodies body d → Holds end (0 ∷ []) d c → IsShut end bodies c
-closed_again end bodies body d c tried holds = record { at = tried.at; gate = 0; rest = framed body ++ tried.rest; closed = not_open 0 refl; is = held_gate end 0 bodies body d c tried holds }
+pub closed_again : (end : ℕ) (bodies : List (List ℕ)) (body c : List ℕ) → IsTried end bodies body c → Written end (0 ∷ []) c → IsShut end bodies c
+closed_again end bodies body c tried written = record {
+  at = tried.at;
+  gate = tried.gate;
+  rest = framed body ++ tried.rest;
+  closed = not_open tried.gate (gate_is end 0 bodies body c tried written);
+  is = tried.is;
+}
 
 -- ---- the end, which may have no closed gate
-
-tail_at : (end : ℕ) (bodies : List (List ℕ)) (d : List ℕ) (ends : EndsAt end bodies d) → drop end d ≡ ends.tail
-tail_at end bodies d ends = ap (λ (l : List ℕ). drop end l) ends.is ∙ drop_at (gated bodies) ends.tail end (sym ends.at.place)
 
 -- the end is not behind the file
 pub end_within : (end n place : ℕ) (bodies : List (List ℕ)) (d : List ℕ) → EndsAt end bodies d → n ≡ length d → place ≡ min end n → place ≡ end
 end_within end n place bodies d ends is least = omega (arith, ends.at.place, ap length ends.is, length-append (gated bodies) ends.tail)
-
-pub shut_here : (end : ℕ) (bodies : List (List ℕ)) (d : List ℕ) → EndsAt end bodies d → HasShutGate end d → IsShut end bodies d
-shut_here end bodies d ends gate = record {
-  at = ends.at;
-  gate = gate.gate;
-  rest = gate.rest;
-  closed = gate.closed;
-  is = ends.is ∙ ap (λ (l : List ℕ). gated bodies ++ l) (sym (tail_at end bodies d ends) ∙ gate.is);
-}
 
 pub closed_here : (end : ℕ) (bodies : List (List ℕ)) (d c : List ℕ) → EndsAt end bodies d → Holds end (0 ∷ []) d c → IsShut end bodies c
 closed_here end bodies d c ends holds = record {
@@ -102,6 +114,10 @@ closed_here end bodies d c ends holds = record {
   closed = not_open 0 refl;
   is = holds_at end (gated bodies) ends.tail (0 ∷ []) d c ends.is (sym ends.at.place) holds;
 }
+
+-- a closed gate that was written is one
+pub gate_written : (place : ℕ) (c : List ℕ) → Written place (0 ∷ []) c → HasShutGate place c
+gate_written place c written = record { gate = 0; rest = written.behind; closed = not_open 0 refl; is = written.is }
 
 -- over no record and no closed gate, whatever the gate is made, no record is there
 any_gate : (tail : List ℕ) (gate : ℕ) → records tail ≡ [] → (tail ≡ []) ⊎ ((rest : List ℕ) × (tail ≡ 1 ∷ rest)) → records (gate ∷ drop 1 tail) ≡ []

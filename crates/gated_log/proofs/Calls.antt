@@ -1,13 +1,14 @@
 -- How calls of `Files` join into the steps of a log.
-use Rattle.std.proofs.Common.{◌≡◌, ⊎_elim, ℕ, ◌<◌, ◌≤◌, List, length, Option, IfSome, Result, Ok, Err, OnOk, OnErr, refl, sym, ◌∙◌, subst, arith}
+use Rattle.std.proofs.Common.{◌≡◌, ⊎_elim, ℕ, ◌<◌, ◌≤◌, List, length, Option, Some, None, IfSome, Result, Ok, Err, OnOk, OnErr, refl, sym, ◌∙◌, subst, arith}
 use Rattle.std.proofs.lemmas.Bool.{cases_lt}
 use Rattle.kv_base.specs.declared.name.FileName.{FileName}
 use Rattle.kv_outside.specs.Disk.{Disk, NothingNew, Changes, Touches, Agrees, Leaves, IsDurable}
 use Rattle.kv_outside.specs.Files.{Goes, Holds, Torn}
-use Rattle.kv_outside.specs.Told.{goes_keeps}
+use Rattle.kv_outside.specs.Told.{goes_keeps, told_given}
 use Rattle.kv_outside.specs.Runs.{goes_on_then, run_change, at_end, agrees_still}
 use Rattle.gated_log.specs.States.{Shows}
 use Rattle.gated_log.specs.Steps.{Tries, Stores}
+use Rattle.gated_log.proofs.Bytes.{Written, held_written}
 
 pub on_ok : {T E P : Type 0} (r : Result T E) → P → OnOk r P
 on_ok (Ok x) p = p
@@ -105,23 +106,38 @@ shows_named disk name after held P same shows = subst (λ (n : FileName). Shows 
 pub run_named : (name after : FileName) (old new : Disk) (P : List ℕ → Type 0) → after ≡ name → Touches after old new P → Touches name old new P
 run_named name after old new P same run = subst (λ (n : FileName). Touches n old new P) same run
 
--- a store that was tried, where each step keeps P; and one that is done, which leads from P to Q
-module _ (at : ℕ) (bytes : List ℕ) (name : FileName) (old new : Disk) (held now : Option (List ℕ)) (P : List ℕ → Type 0) where
-  pub tries_run : Tries at bytes name old new held now → ((d c : List ℕ) → P d → Torn at (length bytes) d c → P c) → Shows old name held P → Touches name old new P
-  tries_run tries keeps shows = run_change name (Torn at (length bytes)) old new P tries.disk shows.images keeps
+-- what was written stands there, where the bytes are told
+pub told_written : (at : ℕ) (bytes : List ℕ) (held now : Option (List ℕ)) → IfSome held (λ d. at ≤ length d) → Goes (Holds at bytes) held now → IfSome now (Written at bytes)
+told_written at bytes held now within written = goes_keeps (Holds at bytes) (λ d. at ≤ length d) (Written at bytes) (λ d c le holds. held_written at bytes d c le holds) held now written within
 
-  pub tries_shows : Tries at bytes name old new held now → ((d c : List ℕ) → P d → Torn at (length bytes) d c → P c) → Shows old name held P → Shows new name now P
-  tries_shows tries keeps shows = record {
-    told = goes_keeps (Torn at (length bytes)) P P keeps held now tries.torn shows.told;
-    agrees = tries.agrees shows.agrees;
-    images = at_end name old new P (tries_run tries keeps shows);
-  }
+pub told_both : (P Q R : List ℕ → Type 0) → ((c : List ℕ) → P c → Q c → R c) → (held : Option (List ℕ)) → IfSome held P → IfSome held Q → IfSome held R
+told_both P Q R leads None p q = tt
+told_both P Q R leads (Some c) p q = leads c p q
 
-  pub stores_shows : (Q : List ℕ → Type 0) → Tries at bytes name old new held now → Stores at bytes name old new held now → ((d c : List ℕ) → P d → Holds at bytes d c → Q c) → Shows old name held P → Shows new name now Q
-  stores_shows Q tries stores leads shows =
-      let told = goes_keeps (Holds at bytes) P Q leads held now stores.written shows.told in
-      record {
-        told = told;
-        agrees = tries.agrees shows.agrees;
-        images = durable_has new name now Q (stores.durable shows.agrees) told;
-      }
+-- A store that was tried, where each step keeps P; and one that is done, which leads from P, with the bytes at their place,
+-- to Q. Of what the log tells, and of what the disk has.
+module _ (at : ℕ) (bytes : List ℕ) (name : FileName) (old new : Disk) (held now : Option (List ℕ)) (P : List ℕ → Type 0)
+    (tries : Tries at bytes name old new held now) (keeps : (d c : List ℕ) → P d → Torn at (length bytes) d c → P c) where
+  pub tries_tell : IfSome held P → IfSome now P
+  tries_tell told = goes_keeps (Torn at (length bytes)) P P keeps held now tries.torn told
+
+  pub tries_run : Shows old name held P → Touches name old new P
+  tries_run shows = run_change name (Torn at (length bytes)) old new P tries.disk shows.images keeps
+
+  pub tries_shows : Shows old name held P → Shows new name now P
+  tries_shows shows = record { agrees = tries.agrees shows.agrees; images = at_end name old new P (tries_run shows) }
+
+  module _ (Q : List ℕ → Type 0) (within : IfSome held (λ d. at ≤ length d)) (stores : Stores at bytes name old new held now) (leads : (c : List ℕ) → P c → Written at bytes c → Q c) where
+    pub stores_tell : IfSome held P → IfSome now Q
+    stores_tell told = told_both P (Written at bytes) Q leads now (tries_tell told) (told_written at bytes held now within stores.written)
+
+    pub stores_shows : Shows old name held P → Shows new name now Q
+    stores_shows shows =
+        let after = tries_shows shows in
+        record {
+          agrees = after.agrees;
+          images = record {
+            each = λ c image. leads c (after.images.each c image)
+                (told_given (Written at bytes) now c ((stores.durable shows.agrees).only c image) (told_written at bytes held now within stores.written));
+          };
+        }

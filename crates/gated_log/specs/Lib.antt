@@ -1,5 +1,6 @@
 pub mod Faults
 pub mod Gated
+pub mod LogLaws
 pub mod Records
 pub mod States
 pub mod Steps

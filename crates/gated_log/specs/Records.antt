@@ -6,7 +6,7 @@ use Rattle.std.proofs.lemmas.Bool.Decides.{nat_tests}
 use Rattle.kv_base.specs.Fields.{u32, text}
 use Rattle.kv_base.specs.FieldLaws.{length-u32, length-text}
 use Rattle.record_body.specs.Framed.{number_of, framed, number_of-u32}
-use Rattle.gated_log.specs.Gated.{open_bodies, records, gated, AllFit, IsEnd, EndsAt, IsShut, IsTried, IsBeforeOrAfter}
+use Rattle.gated_log.specs.Gated.{open_bodies, records, gated, AllFit, IsEnd, EndsAt, IsShut, IsTried, HasShutGate, IsBeforeOrAfter}
 
 -- any number that is not below the file's length serves
 open_bodies_same : (m n : ℕ) (file : List ℕ) → length file ≤ m → length file ≤ n → open_bodies m file ≡ open_bodies n file
@@ -125,6 +125,20 @@ shut_ends end bodies file shut = record { at = shut.at; tail = shut.gate ∷ shu
 
 pub shut_records : (end : ℕ) (bodies : List (List ℕ)) (file : List ℕ) → IsShut end bodies file → records file ≡ bodies
 shut_records end bodies file shut = ends_records end bodies file (shut_ends end bodies file shut)
+
+-- what stands at the end
+pub tail_at : (end : ℕ) (bodies : List (List ℕ)) (d : List ℕ) (ends : EndsAt end bodies d) → drop end d ≡ ends.tail
+tail_at end bodies d ends = ap (λ (l : List ℕ). drop end l) ends.is ∙ drop_at (gated bodies) ends.tail end (sym ends.at.place)
+
+-- the end, where the gate that stands there is not open
+pub shut_here : (end : ℕ) (bodies : List (List ℕ)) (d : List ℕ) → EndsAt end bodies d → HasShutGate end d → IsShut end bodies d
+shut_here end bodies d ends gate = record {
+  at = ends.at;
+  gate = gate.gate;
+  rest = gate.rest;
+  closed = gate.closed;
+  is = ends.is ∙ ap (λ (l : List ℕ). gated bodies ++ l) (sym (tail_at end bodies d ends) ∙ gate.is);
+}
 
 pub tried_records : (end : ℕ) (bodies : List (List ℕ)) (body file : List ℕ) → IsTried end bodies body file → IsBeforeOrAfter bodies body file
 unfolding framed

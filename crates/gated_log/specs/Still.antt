@@ -10,7 +10,6 @@ use Rattle.gated_log.specs.States.{LogState, Shows, Rests, Wavers}
 -- a run on another file
 pub others_show : (at name : FileName) (old new : Disk) (P Q : List ℕ → Type 0) (held : Option (List ℕ)) → name ≢ at → Touches at old new P → Shows old name held Q → Shows new name held Q
 others_show at name old new P Q held other run shows = record {
-  told = shows.told;
   agrees = others_agree at name old new P held other run shows.agrees;
   images = others_leave at name old new Q P other run shows.images;
 }
@@ -18,7 +17,6 @@ others_show at name old new P Q held other run shows = record {
 -- a call that changes no file
 pub shows_after : (name : FileName) (old new : Disk) (Q : List ℕ → Type 0) (held : Option (List ℕ)) → NothingNew old new → Shows old name held Q → Shows new name held Q
 shows_after name old new Q held call shows = record {
-  told = shows.told;
   agrees = agrees_still name old new held held (call.reads name) refl shows.agrees;
   images = at_end name old new Q (run_nothing name old new Q call shows.images);
 }

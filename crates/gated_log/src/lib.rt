@@ -6,8 +6,8 @@
 //!
 //! An append writes length, body and a closed gate behind the gate at the end, syncs, opens the gate, and syncs. So the
 //! record comes in with one byte, and until then whatever a crash makes of what was written lies behind a closed gate.
-//! `specs/` has the words: `Gated` for the bytes of a file, `States` for a log and its disk; `Records` and `Walk` have
-//! the laws.
+//! `specs/` has the words: `Gated` for the bytes of a file, `States` for what a log tells and for what the disk has of it;
+//! `Records`, `Walk` and `LogLaws` have the laws.
 #![tactic(auto)]
 
 mod log;

@@ -1,8 +1,8 @@
-ghost use Rattle.std.specs.Prelude.{◌≡◌, ◌≤◌, ◌<◌, ◌+◌, [], ◌∷◌, ◌++◌, true, false, List, ℕ, length, Some, None, IfOk, OnOk, OnErr, IfSome};
+ghost use Rattle.std.specs.Prelude.{◌≡◌, ◌≤◌, ◌<◌, ◌+◌, [], ◌∷◌, ◌++◌, true, false, List, ℕ, length, Some, IfOk, OnOk, OnErr, IfSome};
 ghost use Rattle.kv_outside.specs.Causes.{HasCause};
-ghost use Rattle.kv_outside.specs.Disk.{Touches, Leaves};
-ghost use Rattle.gated_log.specs.Gated.{records, EndsAt, IsBeforeOrAfter};
-ghost use Rattle.gated_log.specs.States.{Rests, Wavers, IsLeft};
+ghost use Rattle.kv_outside.specs.Disk.{Agrees, IsDurable, Leaves, Touches};
+ghost use Rattle.gated_log.specs.Gated.{records, EndsAt, HasShutGate, IsBeforeOrAfter};
+ghost use Rattle.gated_log.specs.States.{Rests, Wavers, IsLeft, Tells, TellsTried, TellsLeft};
 
 use crate::steps::{OPEN, SHUT, close_end, open_empty, open_synced, store};
 use kv_base::FileName;
@@ -36,6 +36,7 @@ impl<F: Files> GatedLog<F> {
     /// Where no crash could leave more than one byte of the file, none leaves a record of it at any moment of the call.
     pub fn create(files: &mut F, name: FileName) -> Result<Self, Failed>
         ensures made { IfOk result (λ log. Rests (F.disk files.new) log []) }
+        ensures told { IfOk result (λ log. Tells log []) }
         ensures bytes { IfOk result (λ log. IfSome log.held (λ c. c ≡ 0 ∷ [])) }
         ensures end { IfOk result (λ log. log.end ≡ 0) }
         ensures sure { IfOk result (λ log. log.unsure ≡ false) }
@@ -56,12 +57,20 @@ impl<F: Files> GatedLog<F> {
     /// Opens the file again for appending behind its records, whose end is told: it syncs the file, and where the byte
     /// at the end is 01 or not there it writes 00 there and syncs again. So what a crash left of an append that was cut
     /// off lies behind a closed gate before the next one is written over it.
+    ///
+    /// The file is opened anew. Where the log tells its bytes though the disk does not, those before its end are the
+    /// file's, and it has the records that they are.
     pub fn resume(files: &mut F, name: FileName, end: u64) -> Result<Self, Failed>
-        ensures rests { IfOk result (λ log. (bodies : List (List ℕ)) (bytes : List ℕ)
-            → (F.disk files.old).reads name ≡ Some bytes → EndsAt end bodies bytes
-            → Rests (F.disk files.new) log bodies) }
-        // What is not told has any records.
-        ensures untold { IfOk result (λ log. (F.disk files.old).reads name ≡ None → (bodies : List (List ℕ)) → Rests (F.disk files.new) log bodies) }
+        // What the log tells agrees with the disk, a crash leaves it, and the gate at its end is not open.
+        ensures agrees { IfOk result (λ log. Agrees (F.disk files.new) name log.held) }
+        ensures durable { IfOk result (λ log. IsDurable (F.disk files.new) name log.held) }
+        ensures shut { IfOk result (λ log. IfSome log.held (HasShutGate log.end)) }
+        // Records that the disk tells up to this end are what the log tells.
+        ensures told { IfOk result (λ log. (bodies : List (List ℕ)) (bytes : List ℕ)
+            → (F.disk files.old).reads name ≡ Some bytes → EndsAt end bodies bytes → Tells log bodies) }
+        // Records that each crash leaves up to this end are what it leaves from then on.
+        ensures rests { IfOk result (λ log. (bodies : List (List ℕ))
+            → Leaves (F.disk files.old) name (EndsAt end bodies) → Rests (F.disk files.new) log bodies) }
         ensures end { IfOk result (λ log. log.end ≤ end) }
         ensures sure { IfOk result (λ log. log.unsure ≡ false) }
         ensures name { IfOk result (λ log. log.name ≡ name) }
@@ -86,10 +95,14 @@ impl<F: Files> GatedLog<F> {
         requires { self.old.unsure ≡ false }
         ensures added { OnOk result ((bodies : List (List ℕ)) → Rests (F.disk files.old) self.old bodies
             → Rests (F.disk files.new) self.new (bodies ++ body.now ∷ [])) }
+        ensures told { OnOk result ((bodies : List (List ℕ)) → Tells self.old bodies
+            → Tells self.new (bodies ++ body.now ∷ [])) }
         ensures sure { OnOk result (self.new.unsure ≡ false) }
         ensures end { OnOk result (self.new.end ≡ self.old.end + 5 + length body.now) }
         ensures not_added { OnErr result ((bodies : List (List ℕ)) → Rests (F.disk files.old) self.old bodies
             → IsLeft self.new.unsure (F.disk files.new) self.new bodies body.now) }
+        ensures told_left { OnErr result ((bodies : List (List ℕ)) → Tells self.old bodies
+            → TellsLeft self.new.unsure self.new bodies body.now) }
         ensures end_stays { OnErr result (self.new.end ≡ self.old.end) }
         ensures name { self.new.name ≡ self.old.name }
 
@@ -116,9 +129,13 @@ impl<F: Files> GatedLog<F> {
         ensures idle { self.old.unsure ≡ false → (files.new ≡ files.old) × (self.new ≡ self.old) }
         ensures mended { OnOk result ((bodies : List (List ℕ)) (body : List ℕ)
             → IsLeft self.old.unsure (F.disk files.old) self.old bodies body → Rests (F.disk files.new) self.new bodies) }
+        ensures told { OnOk result ((bodies : List (List ℕ)) (body : List ℕ)
+            → TellsLeft self.old.unsure self.old bodies body → Tells self.new bodies) }
         ensures sure { OnOk result (self.new.unsure ≡ false) }
         ensures not_mended { OnErr result ((bodies : List (List ℕ)) (body : List ℕ)
             → IsLeft self.old.unsure (F.disk files.old) self.old bodies body → Wavers (F.disk files.new) self.new bodies body) }
+        ensures told_left { OnErr result ((bodies : List (List ℕ)) (body : List ℕ)
+            → TellsLeft self.old.unsure self.old bodies body → TellsTried self.new bodies body) }
         ensures unsure { OnErr result (self.new.unsure ≡ true) }
         ensures end { self.new.end ≡ self.old.end }
         ensures name { self.new.name ≡ self.old.name }

@@ -1,5 +1,5 @@
 // What a gated log does with its file, each as one step that keeps the records.
-ghost use Rattle.std.specs.Prelude.{◌≡◌, ◌≤◌, ◌<◌, ◌+◌, ◌^◌, [], ◌∷◌, ◌++◌, List, ℕ, length, None, Option, IfOk, OnOk, IfSome, MatchBool};
+ghost use Rattle.std.specs.Prelude.{◌≡◌, ◌≤◌, ◌<◌, ◌+◌, ◌^◌, [], ◌∷◌, ◌++◌, List, ℕ, length, Option, IfOk, OnOk, IfSome, MatchBool};
 ghost use Rattle.kv_outside.specs.Causes.{HasCause};
 ghost use Rattle.kv_outside.specs.Disk.{Touches, NothingNew, Agrees, Leaves, IsDurable};
 ghost use Rattle.gated_log.specs.Gated.{EndsAt, IsShut, HasShutGate, HasNoShutGate};
@@ -37,7 +37,6 @@ pub(crate) fn store<F: Files>(
 pub(crate) fn open_synced<F: Files>(files: &mut F, name: FileName) -> Result<F::Log, Failed>
     ensures name { IfOk result (λ log. F.name_of log ≡ name) }
     ensures opened { IfOk result (λ log. Agrees (F.disk files.old) name (F.bytes_of log)) }
-    ensures silent { IfOk result (λ log. (F.disk files.old).reads name ≡ None → F.bytes_of log ≡ None) }
     ensures agrees { IfOk result (λ log. Agrees (F.disk files.new) name (F.bytes_of log)) }
     ensures durable { IfOk result (λ log. IsDurable (F.disk files.new) name (F.bytes_of log)) }
     ensures disk { NothingNew (F.disk files.old) (F.disk files.new) }
@@ -82,9 +81,18 @@ pub(crate) fn close_end<F: Files>(files: &mut F, log: &mut F::Log, end: u64) -> 
     ensures any_moment { (bodies : List (List ℕ)) → IsDurable (F.disk files.old) (F.name_of log.old) (F.bytes_of log.old)
         → Leaves (F.disk files.old) (F.name_of log.old) (EndsAt end bodies)
         → Touches (F.name_of log.old) (F.disk files.old) (F.disk files.new) (EndsAt end bodies) }
-    ensures shut { IfOk result (λ place. (bodies : List (List ℕ)) → IfSome (F.bytes_of log.old) (EndsAt end bodies)
+    ensures shut { IfOk result (λ place. IfSome (F.bytes_of log.new) (HasShutGate place)) }
+    ensures told { IfOk result (λ place. (bodies : List (List ℕ)) → IfSome (F.bytes_of log.old) (EndsAt end bodies)
+        → IfSome (F.bytes_of log.new) (IsShut place bodies)) }
+    ensures agrees { OnOk result (Agrees (F.disk files.old) (F.name_of log.old) (F.bytes_of log.old)
+        → Agrees (F.disk files.new) (F.name_of log.old) (F.bytes_of log.new)) }
+    ensures durable { OnOk result (Agrees (F.disk files.old) (F.name_of log.old) (F.bytes_of log.old)
+        → IsDurable (F.disk files.old) (F.name_of log.old) (F.bytes_of log.old)
+        → IsDurable (F.disk files.new) (F.name_of log.old) (F.bytes_of log.new)) }
+    ensures rests { IfOk result (λ place. (bodies : List (List ℕ))
         → Agrees (F.disk files.old) (F.name_of log.old) (F.bytes_of log.old)
         → IsDurable (F.disk files.old) (F.name_of log.old) (F.bytes_of log.old)
+        → Leaves (F.disk files.old) (F.name_of log.old) (EndsAt end bodies)
         → Shows (F.disk files.new) (F.name_of log.old) (F.bytes_of log.new) (IsShut place bodies)) }
     ensures place { IfOk result (λ place. place ≤ end) }
     ensures small { IfOk result (λ place. place ≤ 2 ^ 63) }

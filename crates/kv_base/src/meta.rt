@@ -5,6 +5,7 @@ ghost use Rattle.kv_base.specs.MetaValues.{is_deadline, is_life, is_score, is_si
 ghost use Rattle.kv_base.specs.RowRefs.{meta_seen};
 
 use crate::fields::take_u64;
+use crate::flags::{HASH, LIST, SET, STRING, ZSET};
 use crate::kind::Kind;
 use crate::raw::{VERSIONS, decode_raw};
 use crate::raw_ref::{MetaRef, RawRef};
@@ -20,17 +21,6 @@ const SIZES: u64 = 1 << 32;
 
 /// Scores lie between this number and its negative.
 const MAX_SCORE: i64 = 1 << 53;
-
-// The first byte of metadata is 128 and the number of the type.
-const STRING: u8 = 0x81;
-
-const HASH: u8 = 0x82;
-
-const LIST: u8 = 0x83;
-
-const SET: u8 = 0x84;
-
-const ZSET: u8 = 0x85;
 
 /// Is `raw` a raw key, and is the value of the shape that it asks for?
 ///

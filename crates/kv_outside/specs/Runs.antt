@@ -1,5 +1,5 @@
 -- How calls compose into runs: of each moment of a run, and of each image at it.
-use Rattle.std.proofs.Common.{◌≡◌, ◌≢◌, ◌⊎◌, ⊎_elim, Option, ℕ, ◌<◌, ◌≤◌, List, refl, ◌∙◌, sym, subst, arith}
+use Rattle.std.proofs.Common.{◌≡◌, ◌≢◌, ⊎_elim, Option, ℕ, ◌<◌, ◌≤◌, List, refl, ◌∙◌, sym, subst, arith}
 use Rattle.std.proofs.lemmas.Bool.{cases_lt}
 use Rattle.kv_base.specs.declared.name.FileName.{FileName}
 use Rattle.kv_outside.specs.Disk.{Disk, IsImage, GoesOn, NothingNew, Changes, Leaves, Agrees, Touches, Always}
@@ -26,6 +26,26 @@ nothing_new disk = record {
   since = λ k name c from to image. absurd (omega arith);
   reads = λ name. refl;
 }
+
+-- two calls that change nothing
+pub nothing_then : (old mid new : Disk) → NothingNew old mid → NothingNew mid new → NothingNew old new
+nothing_then old mid new first second = record {
+  goes_on = goes_on_then old mid new first.goes_on second.goes_on;
+  since = λ k name c from to image. ⊎_elim
+      (λ (lt : mid.moment < k). since_mid name c (second.since k name c lt to image))
+      (λ (le : k ≤ mid.moment). first.since k name c from le (second.goes_on.past k name c le image))
+      (cases_lt mid.moment k);
+  reads = λ name. second.reads name ∙ first.reads name;
+}
+  where
+    since_mid : (name : FileName) (c : List ℕ) → mid.images mid.moment name c → old.images old.moment name c
+    since_mid name c image = ⊎_elim
+        (λ (lt : old.moment < mid.moment). first.since mid.moment name c lt (omega arith) image)
+        (λ (le : mid.moment ≤ old.moment). first.goes_on.past old.moment name c (omega arith) (subst (λ (k : ℕ). mid.images k name c) (same le) image))
+        (cases_lt old.moment mid.moment)
+      where
+        same : mid.moment ≤ old.moment → mid.moment ≡ old.moment
+        same le = omega (arith, le, first.goes_on.later)
 
 pub no_change : (at : FileName) (step : List ℕ → List ℕ → Type 0) (disk : Disk) → Changes at step disk disk
 no_change at step disk = record {

@@ -1,5 +1,5 @@
 -- Bytes that may not be told.
-use Rattle.std.proofs.Common.{◌≡◌, inl, inr, ⊎_elim, ℕ, ◌+◌, ◌≤◌, max, List, ◌++◌, length, take, drop, Option, Some, None, IfSome, refl, ◌∙◌, sym, ap, subst, arith, append_assoc, take-append-drop, length-append, length-take, length-drop}
+use Rattle.std.proofs.Common.{◌≡◌, ℕ, ◌+◌, ◌≤◌, List, ◌++◌, length, take, drop, Option, Some, None, IfSome, refl, ◌∙◌, sym, ap, subst, arith, append_assoc, take-append-drop, length-append, length-drop}
 use Rattle.std.proofs.lemmas.List.{take_at, drop_at, length-take-le, drop-drop, take-take}
 use Rattle.kv_outside.specs.Files.{Goes, Holds, Torn}
 
@@ -64,3 +64,6 @@ told_any (Some c) = tt
 
 pub told_given : (P : List ℕ → Type 0) (held : Option (List ℕ)) (bytes : List ℕ) → held ≡ Some bytes → IfSome held P → P bytes
 told_given P held bytes is has = subst (λ (o : Option (List ℕ)). IfSome o P) is has
+
+pub told_is : (P : List ℕ → Type 0) (held : Option (List ℕ)) (bytes : List ℕ) → held ≡ Some bytes → P bytes → IfSome held P
+told_is P held bytes is has = subst (λ (o : Option (List ℕ)). IfSome o P) (sym is) has

@@ -1,4 +1,4 @@
-ghost use Rattle.std.specs.Prelude.{◌≡◌, ◌≤◌, ◌+◌, ◌^◌, List, ℕ, length, Option, Some, None, IfOk, OnOk, IfSome};
+ghost use Rattle.std.specs.Prelude.{◌≡◌, ◌≤◌, ◌+◌, ◌^◌, List, ℕ, length, Option, Some, IfOk, OnOk, IfSome};
 ghost use Rattle.std.specs.Io.{ReadsAtMost};
 ghost use Rattle.kv_base.specs.declared.name.FileName.{FileName};
 ghost use Rattle.kv_outside.specs.Causes.{HasCause};
@@ -13,10 +13,10 @@ use kv_base::FileName;
 /// One value serves one thread and counts the faults of its own calls; the files behind it are shared. A file that is
 /// not there is an empty one. No file has more than 2^63 bytes.
 ///
-/// What an open or sealed file holds is told by that value. The disk tells what a file reads as and, for every moment
-/// so far, what a crash at that moment may leave of each file: its images. What `open` gives agrees with the disk, and
-/// is told only where the disk tells it; writes and cuts keep a log in agreement with it; a log that agrees is durable
-/// after a sync. Two logs of one name don't see each other's writes, so of the two at most one goes on agreeing.
+/// What an open or sealed file holds is told by that value, also where the disk does not tell it. The disk tells what a
+/// file reads as and, for every moment so far, what a crash at that moment may leave of each file: its images. What
+/// `open` gives agrees with the disk; writes and cuts keep a log in agreement with it; a log that agrees is durable after
+/// a sync. Two logs of one name don't see each other's writes, so of the two at most one goes on agreeing.
 ///
 /// Between two syncs a range that was written, and what lies behind the end that the file had, may hold any bytes
 /// after a crash; the rest stays, and an image is no longer than the longest, and no shorter than the shortest, that
@@ -51,7 +51,6 @@ pub trait Files {
     fn open(&mut self, name: FileName) -> Result<Self::Log, Failed>
         ensures name { IfOk result (λ log. name_of log ≡ name) }
         ensures agrees { IfOk result (λ log. Agrees (disk self.new) name (bytes_of log)) }
-        ensures silent { IfOk result (λ log. (disk self.old).reads name ≡ None → bytes_of log ≡ None) }
         ensures disk { NothingNew (disk self.old) (disk self.new) }
         ensures cause { HasCause (faults self.old) (faults self.new) result };
 

@@ -14,7 +14,7 @@ use std::marker::Model;
 use std::{fs, io};
 
 /// The files of a store in a folder: `slot-a`, `slot-b`, `wal-N` and `t-RUN-PART`, with the numbers in decimal.
-/// Contracts see their count of faults.
+/// Contracts see the folder and the count of faults.
 ///
 /// The folder is not made: where it is not there each `open` fails. Each error of the system counts, as does want of
 /// memory for a path.
@@ -63,11 +63,11 @@ pub struct RealSealed {
 }
 
 impl<R: Drop> Model for RealFiles<R> {
-    ghost use Rattle.std.specs.Prelude.{ℕ};
+    ghost use Rattle.kv_real.specs.Folder.{FolderFiles};
 
-    ghost Value = { ℕ };
+    ghost Value = { FolderFiles };
 
-    ghost view = { λ s. s.faults };
+    ghost view = { λ s. record { folder = s.folder; faults = s.faults } };
 }
 
 impl Model for RealLog {
@@ -81,7 +81,8 @@ impl Model for RealLog {
 impl<R: fs::Files<File = File> + Drop> RealFiles<R> {
     /// The files of this folder. No call is made.
     pub fn new(alloc: Global, rt: R, folder: PathText) -> RealFiles<R>
-        ensures { result ≡ 0 }
+        ensures folder { result.folder ≡ folder }
+        ensures faults { result.faults ≡ 0 }
     {
         RealFiles {
             alloc,
@@ -115,7 +116,7 @@ impl<R: fs::Files<File = File> + Drop> Files for RealFiles<R> {
 
     type Sealed = RealSealed;
 
-    ghost faults = { λ s. s };
+    ghost faults = { λ s. s.faults };
 
     ghost disk = { λ _. untold };
 

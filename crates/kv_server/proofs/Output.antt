@@ -6,7 +6,7 @@ use Rattle.kv_outside.specs.Readings.{next_reading, TakesAll}
 use Rattle.kv_outside.specs.Causes.{Rose}
 use Rattle.redis_model.specs.declared.history.Place.{Place}
 use Rattle.redis_model.specs.DeskState.{DeskState}
-use Rattle.redis_model.specs.Machine.{State}
+use Rattle.redis_model.specs.Places.{Opening}
 use Rattle.resp_wire.specs.Grammar.{Whole, requests}
 use Rattle.session.specs.declared.answer.Answer.{Answer}
 use Rattle.session.specs.declared.session.Outcome.{Outcome}
@@ -16,8 +16,9 @@ use Rattle.session.specs.Quits.{has_quit, has_quit-none}
 use Rattle.session.specs.Session.{Session, IsCaused, end_line}
 use Rattle.session.specs.Talk.{Talks, text}
 use Rattle.kv_server.specs.Dialog.{StoreState}
+use Rattle.kv_server.specs.Outside.{Outside}
 use Rattle.kv_server.specs.Script.{status, first_readings, AreTold, Ran, Talked, OutputOf, IsAnswered, IsRejected, HasFront, IsComplete, EndsBadly, IsWhole}
-use Rattle.kv_server.proofs.Talk.{IsForOne, IsMarked, store_at, talk_is, talks_later}
+use Rattle.kv_server.proofs.Talk.{IsForOne, store_at, talk_is, talks_later}
 
 abbrev pub Known : Type 0
 Known = Option (List ℕ)
@@ -32,22 +33,22 @@ are_told (Some told) b (now ∷ nows) (Some later, p, q) =
     ap (λ (x : ℕ). x ∷ nows) p.0 ∙ ap (λ (xs : List ℕ). next_reading told ∷ xs) (rest ∙ ap (first_readings (length nows)) p.1)
 
 -- A session at a desk whose caller is alone, from a history that the desk stood for: it stands for what comes of it.
-pub record WentOn {D : Type 0} (told : D → DeskState) (sequence : D → ℕ) (old new : D) (served : List (List Bytes)) (answers : List Answer) (first : State) (before : List Place) : Type 0 where
+pub record WentOn {D : Type 0} (told : D → DeskState) (sequence : D → ℕ) (old new : D) (served : List (List Bytes)) (answers : List Answer) (opening : Opening) (before : List Place) : Type 0 where
   pub seen : List Place
-  pub stands : (told new).stands first seen
-  pub talked : Talked (store_at told sequence old first before) (store_at told sequence new first seen) served answers (told old).readings (told new).readings
+  pub stands : (told new).stands opening seen
+  pub talked : Talked (store_at told sequence old opening before) (store_at told sequence new opening seen) served answers (told old).readings (told new).readings
 
-pub went_at : {D : Type 0} (told : D → DeskState) (sequence : D → ℕ) (alone : IsForOne told sequence) (old new : D) (served : List (List Bytes)) (answers : List Answer) (first : State) (before : List Place)
-    → IsMarked before → (told old).stands first before → Talks told old new served answers → WentOn told sequence old new served answers first before
-went_at told sequence alone old new served answers first before marked stood talk =
-    let said = talk_is told sequence alone old new first before served answers marked stood talk in
+pub went_at : {D : Type 0} (told : D → DeskState) (sequence : D → ℕ) (alone : IsForOne told sequence) (old new : D) (served : List (List Bytes)) (answers : List Answer) (opening : Opening) (before : List Place)
+    → (told old).stands opening before → Talks told old new served answers → WentOn told sequence old new served answers opening before
+went_at told sequence alone old new served answers opening before stood talk =
+    let said = talk_is told sequence alone old new opening before served answers stood talk in
     record { seen = said.seen; stands = said.stands; talked = record { nows = said.nows; readings = said.readings; dialog = said.dialog } }
 
 -- what a session took, answered and wrote
-pub ran_at : {D : Type 0} (told : D → DeskState) (o : Outcome) (old new : D) (l l' h i : Known) (b b' : Bool) → Session told o old new l l' h i b b'
-    → (r : Ran o l l' h i b b') × Talks told old new r.served r.answers
+pub ran_at : {D : Type 0} (told : D → DeskState) (o : Outcome) (d d' : D) (old new : Outside) → Session told o d d' old.left new.left old.held new.held old.ended new.ended
+    → (r : Ran o old new) × Talks told d d' r.served r.answers
 unfolding Session
-ran_at told o old new l l' h i b b' p = (record { taken = p.taken; served = p.served; answers = p.answers; line = p.line; took = p.took; ends = p.ends; wrote = p.wrote }, p.talk)
+ran_at told o d d' old new p = (record { taken = p.taken; served = p.served; answers = p.answers; line = p.line; took = p.took; limit = p.limit; ends = p.ends; wrote = p.wrote }, p.talk)
 
 -- the count of faults does not fall
 pub later_at : {D : Type 0} (told : D → DeskState) (o : Outcome) (old new : D) (l l' h i : Known) (b b' : Bool) → Session told o old new l l' h i b b' → (told old).faults ≤ (told new).faults
@@ -64,14 +65,14 @@ output_of s t a b h i served answers line talked wrote = record { nows = talked.
 ends_badly : (input : Bytes) (served : List (List Bytes)) (line : Bytes) → IsOff input served line → EndsBadly input
 ends_badly input served line off = (ap has_quit (sym off.all) ∙ has_quit-none served off.none, off.broken)
 
-module _ (n : ℕ) (s t : StoreState) (a b l' h i : Known) (e e' : Bool) where
+module _ (n : ℕ) (s t : StoreState) (old new : Outside) where
   -- the input was read to its end, or to a QUIT
-  pub closed_output : (o : Outcome) (l : Known) → n ≡ status o → (p : Ran o l l' h i e e') → Talked s t p.served p.answers a b → n ≡ 0 → IsAnswered s t l a h i
+  pub closed_output : (o : Outcome) (l : Known) → n ≡ status o → (p : Ran o (record old { left = l }) new) → Talked s t p.served p.answers old.readings new.readings → n ≡ 0 → IsAnswered s t l old.readings old.held new.held
   closed_output outcome.Closed None is p talked zero = tt
   closed_output outcome.Closed (Some input) is p talked zero =
-      let q = ends_input outcome.Closed input p.taken l' p.served p.line e e' p.took p.ends in
-      let all = output_of s t a b h i p.served p.answers p.line talked p.wrote in
-      (subst (λ (rs : List (List Bytes)). OutputOf s t a h i rs []) q.1 (subst (OutputOf s t a h i p.served) q.0 all), q.2)
+      let q = ends_input outcome.Closed input p.taken new.left p.served p.line old.ended new.ended p.took p.ends in
+      let all = output_of s t old.readings new.readings old.held new.held p.served p.answers p.line talked p.wrote in
+      (subst (λ (rs : List (List Bytes)). OutputOf s t old.readings old.held new.held rs []) q.1 (subst (OutputOf s t old.readings old.held new.held p.served) q.0 all), q.2)
   closed_output outcome.NoMem l is p talked zero = absurd (omega (arith, is, zero))
   closed_output outcome.ReadFault l is p talked zero = absurd (omega (arith, is, zero))
   closed_output outcome.WriteFault l is p talked zero = absurd (omega (arith, is, zero))
@@ -79,15 +80,15 @@ module _ (n : ℕ) (s t : StoreState) (a b l' h i : Known) (e e' : Bool) where
   closed_output outcome.Spent l is p talked zero = absurd (omega (arith, is, zero))
 
   -- the sink failed
-  pub broken_output : (o : Outcome) (l : Known) → n ≡ status o → (p : Ran o l l' h i e e') → Talked s t p.served p.answers a b → n ≡ 6 → HasFront s t l a h i
+  pub broken_output : (o : Outcome) (l : Known) → n ≡ status o → (p : Ran o (record old { left = l }) new) → Talked s t p.served p.answers old.readings new.readings → n ≡ 6 → HasFront s t l old.readings old.held new.held
   broken_output outcome.WriteFault None is p talked six = tt
   broken_output outcome.WriteFault (Some input) is p talked six = record {
     served = p.served;
     line = p.line;
-    under_way = ends_input outcome.WriteFault input p.taken l' p.served p.line e e' p.took p.ends;
+    under_way = ends_input outcome.WriteFault input p.taken new.left p.served p.line old.ended new.ended p.took p.ends;
     nows = talked.nows;
     answers = p.answers;
-    told = are_told a b talked.nows talked.readings;
+    told = are_told old.readings new.readings talked.nows talked.readings;
     dialog = talked.dialog;
     wrote = p.wrote;
   }
@@ -98,12 +99,12 @@ module _ (n : ℕ) (s t : StoreState) (a b l' h i : Known) (e e' : Bool) where
   broken_output outcome.Spent l is p talked six = absurd (omega (arith, is, six))
 
   -- the input is off the grammar, or ends inside a request
-  pub protocol_output : (o : Outcome) (l : Known) → n ≡ status o → (p : Ran o l l' h i e e') → Talked s t p.served p.answers a b → n ≡ 7 → IsRejected s t l a h i
+  pub protocol_output : (o : Outcome) (l : Known) → n ≡ status o → (p : Ran o (record old { left = l }) new) → Talked s t p.served p.answers old.readings new.readings → n ≡ 7 → IsRejected s t l old.readings old.held new.held
   protocol_output outcome.Protocol None is p talked seven = tt
   protocol_output outcome.Protocol (Some input) is p talked seven =
-      let off = ends_input outcome.Protocol input p.taken l' p.served p.line e e' p.took p.ends in
-      let all = output_of s t a b h i p.served p.answers p.line talked p.wrote in
-      (subst (λ (rs : List (List Bytes)). OutputOf s t a h i rs (end_line (length input) (requests input).1)) off.all (subst (OutputOf s t a h i p.served) off.tells all), ends_badly input p.served p.line off)
+      let off = ends_input outcome.Protocol input p.taken new.left p.served p.line old.ended new.ended p.took p.ends in
+      let all = output_of s t old.readings new.readings old.held new.held p.served p.answers p.line talked p.wrote in
+      (subst (λ (rs : List (List Bytes)). OutputOf s t old.readings old.held new.held rs (end_line (length input) (requests input).1)) off.all (subst (OutputOf s t old.readings old.held new.held p.served) off.tells all), ends_badly input p.served p.line off)
   protocol_output outcome.Closed l is p talked seven = absurd (omega (arith, is, seven))
   protocol_output outcome.NoMem l is p talked seven = absurd (omega (arith, is, seven))
   protocol_output outcome.ReadFault l is p talked seven = absurd (omega (arith, is, seven))
@@ -119,16 +120,16 @@ complete_or_bad input complete bad =
     complete
 
 -- an input that is whole is answered, unless the source or the sink failed or memory ran out
-pub whole_is_answered : (o : Outcome) (n : ℕ) (l l' h i : Known) (e e' : Bool) (f f' k k' : ℕ) → n ≡ status o → Ran o l l' h i e e' → IsCaused o f f' k k' → IsWhole l → (Rose f f' → ⊥) → (Rose k k' → ⊥) → (n ≡ 0) ⊎ (n ≡ 4)
-whole_is_answered outcome.Closed n l l' h i e e' f f' k k' is p c whole read written = inl is
-whole_is_answered outcome.NoMem n l l' h i e e' f f' k k' is p c whole read written = inr is
-whole_is_answered outcome.ReadFault n l l' h i e e' f f' k k' is p c whole read written = absurd (read c)
-whole_is_answered outcome.WriteFault n l l' h i e e' f f' k k' is p c whole read written = absurd (written c)
-whole_is_answered outcome.Protocol n None l' h i e e' f f' k k' is p c whole read written = absurd whole
-whole_is_answered outcome.Protocol n (Some input) l' h i e e' f f' k k' is p c whole read written =
-    let off = ends_input outcome.Protocol input p.taken l' p.served p.line e e' p.took p.ends in
+pub whole_is_answered : (o : Outcome) (n : ℕ) (l : Known) (old new : Outside) → n ≡ status o → Ran o (record old { left = l }) new → IsCaused o old.source new.source old.sink new.sink → IsWhole l → (Rose old.source new.source → ⊥) → (Rose old.sink new.sink → ⊥) → (n ≡ 0) ⊎ (n ≡ 4)
+whole_is_answered outcome.Closed n l old new is p c whole read written = inl is
+whole_is_answered outcome.NoMem n l old new is p c whole read written = inr is
+whole_is_answered outcome.ReadFault n l old new is p c whole read written = absurd (read c)
+whole_is_answered outcome.WriteFault n l old new is p c whole read written = absurd (written c)
+whole_is_answered outcome.Protocol n None old new is p c whole read written = absurd whole
+whole_is_answered outcome.Protocol n (Some input) old new is p c whole read written =
+    let off = ends_input outcome.Protocol input p.taken new.left p.served p.line old.ended new.ended p.took p.ends in
     absurd (complete_or_bad input whole.0 (ends_badly input p.served p.line off))
-whole_is_answered outcome.Spent n None l' h i e e' f f' k k' is p c whole read written = absurd whole
-whole_is_answered outcome.Spent n (Some input) l' h i e e' f f' k k' is p c whole read written =
-    let spent = ends_input outcome.Spent input p.taken l' p.served p.line e e' p.took p.ends in
+whole_is_answered outcome.Spent n None old new is p c whole read written = absurd whole
+whole_is_answered outcome.Spent n (Some input) old new is p c whole read written =
+    let spent = ends_input outcome.Spent input p.taken new.left p.served p.line old.ended new.ended p.took p.ends in
     absurd (omega (arith, whole.1, spent.2))

@@ -1,5 +1,5 @@
 -- What a run says, by its status.
-use Rattle.std.proofs.Common.{◌≡◌, ◌≢◌, ◌≤◌, ℕ, Bool, [], inl, inr, ◌⊎◌, ⊎_elim, refl, sym, subst, ◌∙◌, arith}
+use Rattle.std.proofs.Common.{◌≡◌, ◌≢◌, ◌≤◌, ℕ, [], inl, inr, ◌⊎◌, ⊎_elim, refl, sym, subst, ◌∙◌, arith}
 use Rattle.kv_base.specs.declared.fault.StoreFault.{StoreFault}
 use Rattle.kv_base.specs.declared.fault.StoreFault.TheVariants as fault
 use Rattle.kv_outside.specs.Causes.{Rose, rose_since}
@@ -15,8 +15,9 @@ use Rattle.log_store.specs.Recover.{Recovered}
 use Rattle.log_store.specs.Keeping.{StoreState as KeptState, FailsToOpen, IsKept, IsOpened, StandsFor, Keeps, KeepsOrMore}
 use Rattle.log_store.specs.KeepLaws.{opened_stands}
 use Rattle.kv_server.specs.Dialog.{StoreState}
+use Rattle.kv_server.specs.Outside.{Outside}
 use Rattle.kv_server.specs.Script.{status, opening_status, unclosed_status, EndsWith, Tells, IsWritten, IsRun, IsGood, IsFaultTold, IsFront, IsDamageTold, IsWhole, IsSession, LeavesKeys, Opened, Talked, Went, store_of, store_from}
-use Rattle.kv_server.proofs.Output.{Known, closed_output, broken_output, protocol_output, whole_is_answered}
+use Rattle.kv_server.proofs.Output.{closed_output, broken_output, protocol_output, whole_is_answered}
 
 -- ---- which status can be which
 
@@ -58,56 +59,56 @@ session_status o n before now (inr closing) other = ⊎_elim (λ (two : unclosed
 refused_status : (n : ℕ) (f : StoreFault) → n ≡ opening_status f → (n ≡ 2) ⊎ ((n ≡ 3) ⊎ (n ≡ 4))
 refused_status n f is = rw is (opening_is f)
 
-module _ (n : ℕ) (disk disk' : Disk) (files files' : ℕ) (a a' l l' h i : Known) (e e' : Bool) (s s' k k' : ℕ) where
+module _ (n : ℕ) (old new : Outside) where
   -- what holds of what comes of a store that was opened holds of the store
-  opened_on : {P Q : StoreState → Type 0} → ((first : StoreState) → P first → Q first) → Opened disk files P → Opened disk files Q
+  opened_on : {P Q : StoreState → Type 0} → ((first : StoreState) → P first → Q first) → Opened old.disk old.files P → Opened old.disk old.files Q
   opened_on on o = record { start = o.start; begins = o.begins; faults = o.faults; since = o.since; holds = λ keys means. on (store_from o.start keys o.faults) (o.holds keys means) }
 
-  pub good_run : IsRun n disk disk' files files' a a' l l' h i e e' s s' k k' → n ≡ 0 → Opened disk files (IsGood disk' files' l a h i)
+  pub good_run : IsRun n old new → n ≡ 0 → Opened old.disk old.files (IsGood new.disk new.files old.left old.readings old.held new.held)
   good_run (inl r) zero = let is = refused_status n r.fault r.status in absurd (omega (arith, zero, is))
   good_run (inr r) zero =
-      let is : n ≡ status r.outcome = session_status r.outcome n files files' r.ends (omega (arith, zero)) in
-      opened_on (λ first (w : Went n disk' files' r.ran.served r.ran.answers a a' first). record { last = w.last; until = w.until; answered = closed_output n first w.last a a' l' h i e e' r.outcome l is r.ran w.talked zero; kept = w.kept zero }) r.opened
+      let is : n ≡ status r.outcome = session_status r.outcome n old.files new.files r.ends (omega (arith, zero)) in
+      opened_on (λ first (w : Went n new r.ran.served r.ran.answers old.readings first). record { last = w.last; until = w.until; answered = closed_output n first w.last old new r.outcome old.left is r.ran w.talked zero; kept = w.kept zero }) r.opened
 
-  pub front_run : IsRun n disk disk' files files' a a' l l' h i e e' s s' k k' → n ≡ 6 → Opened disk files (IsFront disk' files' l a h i)
+  pub front_run : IsRun n old new → n ≡ 6 → Opened old.disk old.files (IsFront new.disk new.files old.left old.readings old.held new.held)
   front_run (inl r) six = let is = refused_status n r.fault r.status in absurd (omega (arith, six, is))
   front_run (inr r) six =
-      let is : n ≡ status r.outcome = session_status r.outcome n files files' r.ends (omega (arith, six)) in
-      opened_on (λ first (w : Went n disk' files' r.ran.served r.ran.answers a a' first). record { last = w.last; until = w.until; front = broken_output n first w.last a a' l' h i e e' r.outcome l is r.ran w.talked six; kept_or_more = w.kept_or_more }) r.opened
+      let is : n ≡ status r.outcome = session_status r.outcome n old.files new.files r.ends (omega (arith, six)) in
+      opened_on (λ first (w : Went n new r.ran.served r.ran.answers old.readings first). record { last = w.last; until = w.until; front = broken_output n first w.last old new r.outcome old.left is r.ran w.talked six; kept_or_more = w.kept_or_more }) r.opened
 
-  pub protocol_run : IsRun n disk disk' files files' a a' l l' h i e e' s s' k k' → n ≡ 7 → Opened disk files (IsFaultTold disk' files' l a h i)
+  pub protocol_run : IsRun n old new → n ≡ 7 → Opened old.disk old.files (IsFaultTold new.disk new.files old.left old.readings old.held new.held)
   protocol_run (inl r) seven = let is = refused_status n r.fault r.status in absurd (omega (arith, seven, is))
   protocol_run (inr r) seven =
-      let is : n ≡ status r.outcome = session_status r.outcome n files files' r.ends (omega (arith, seven)) in
-      opened_on (λ first (w : Went n disk' files' r.ran.served r.ran.answers a a' first). record { last = w.last; until = w.until; rejected = protocol_output n first w.last a a' l' h i e e' r.outcome l is r.ran w.talked seven; kept_or_more = w.kept_or_more }) r.opened
+      let is : n ≡ status r.outcome = session_status r.outcome n old.files new.files r.ends (omega (arith, seven)) in
+      opened_on (λ first (w : Went n new r.ran.served r.ran.answers old.readings first). record { last = w.last; until = w.until; rejected = protocol_output n first w.last old new r.outcome old.left is r.ran w.talked seven; kept_or_more = w.kept_or_more }) r.opened
 
-  told_damage : (f : StoreFault) → n ≡ opening_status f → FailsToOpen disk files files' f → Tells f h i k k' → n ≡ 3 → IsDamageTold disk h i k k'
+  told_damage : (f : StoreFault) → n ≡ opening_status f → FailsToOpen old.disk old.files new.files f → Tells f old.held new.held old.sink new.sink → n ≡ 3 → IsDamageTold old.disk old.held new.held old.sink new.sink
   told_damage fault.Failed is cause wrote three = absurd (omega (arith, is, three))
   told_damage (fault.Damaged file place) is cause wrote three = record {
     place = place;
     damaged = record { bytes = cause.bytes; told = cause.told; is = cause.is; named = refl };
-    line = subst (λ name. IsWritten (damage_line name place) h i k k') cause.named wrote;
+    line = subst (λ name. IsWritten (damage_line name place) old.held new.held old.sink new.sink) cause.named wrote;
   }
   told_damage fault.NoMem is cause wrote three = absurd (omega (arith, is, three))
 
-  pub damaged_run : IsRun n disk disk' files files' a a' l l' h i e e' s s' k k' → n ≡ 3 → IsDamageTold disk h i k k'
+  pub damaged_run : IsRun n old new → n ≡ 3 → IsDamageTold old.disk old.held new.held old.sink new.sink
   damaged_run (inl r) three = told_damage r.fault r.status r.cause r.wrote three
-  damaged_run (inr r) three = absurd ((status_is_not r.outcome).2 (sym (session_status r.outcome n files files' r.ends (omega (arith, three))) ∙ three))
+  damaged_run (inr r) three = absurd ((status_is_not r.outcome).2 (sym (session_status r.outcome n old.files new.files r.ends (omega (arith, three))) ∙ three))
 
-  opening_cause : (f : StoreFault) → n ≡ opening_status f → FailsToOpen disk files files' f → n ≡ 2 → Rose files files'
+  opening_cause : (f : StoreFault) → n ≡ opening_status f → FailsToOpen old.disk old.files new.files f → n ≡ 2 → Rose old.files new.files
   opening_cause fault.Failed is cause two = cause
   opening_cause (fault.Damaged file place) is cause two = absurd (omega (arith, is, two))
   opening_cause fault.NoMem is cause two = absurd (omega (arith, is, two))
 
-  closing_cause : (o : Outcome) → EndsWith o n files files' → n ≡ 2 → Rose files files'
+  closing_cause : (o : Outcome) → EndsWith o n old.files new.files → n ≡ 2 → Rose old.files new.files
   closing_cause o (inl is) two = absurd ((status_is_not o).1 (sym is ∙ two))
   closing_cause o (inr closing) two = closing.1
 
-  pub files_run : IsRun n disk disk' files files' a a' l l' h i e e' s s' k k' → n ≡ 2 → Rose files files'
+  pub files_run : IsRun n old new → n ≡ 2 → Rose old.files new.files
   files_run (inl r) two = opening_cause r.fault r.status r.cause two
   files_run (inr r) two = closing_cause r.outcome r.ends two
 
-  input_cause : (o : Outcome) → n ≡ status o → IsCaused o s s' k k' → n ≡ 5 → Rose s s'
+  input_cause : (o : Outcome) → n ≡ status o → IsCaused o old.source new.source old.sink new.sink → n ≡ 5 → Rose old.source new.source
   input_cause outcome.ReadFault is c five = c
   input_cause outcome.Closed is c five = absurd (omega (arith, is, five))
   input_cause outcome.NoMem is c five = absurd (omega (arith, is, five))
@@ -115,11 +116,11 @@ module _ (n : ℕ) (disk disk' : Disk) (files files' : ℕ) (a a' l l' h i : Kno
   input_cause outcome.Protocol is c five = absurd (omega (arith, is, five))
   input_cause outcome.Spent is c five = absurd (omega (arith, is, five))
 
-  pub input_run : IsRun n disk disk' files files' a a' l l' h i e e' s s' k k' → n ≡ 5 → Rose s s'
+  pub input_run : IsRun n old new → n ≡ 5 → Rose old.source new.source
   input_run (inl r) five = let is = refused_status n r.fault r.status in absurd (omega (arith, five, is))
-  input_run (inr r) five = input_cause r.outcome (session_status r.outcome n files files' r.ends (omega (arith, five))) r.caused five
+  input_run (inr r) five = input_cause r.outcome (session_status r.outcome n old.files new.files r.ends (omega (arith, five))) r.caused five
 
-  output_cause : (o : Outcome) → n ≡ status o → IsCaused o s s' k k' → n ≡ 6 → Rose k k'
+  output_cause : (o : Outcome) → n ≡ status o → IsCaused o old.source new.source old.sink new.sink → n ≡ 6 → Rose old.sink new.sink
   output_cause outcome.WriteFault is c six = c
   output_cause outcome.Closed is c six = absurd (omega (arith, is, six))
   output_cause outcome.NoMem is c six = absurd (omega (arith, is, six))
@@ -127,30 +128,30 @@ module _ (n : ℕ) (disk disk' : Disk) (files files' : ℕ) (a a' l l' h i : Kno
   output_cause outcome.Protocol is c six = absurd (omega (arith, is, six))
   output_cause outcome.Spent is c six = absurd (omega (arith, is, six))
 
-  pub output_run : IsRun n disk disk' files files' a a' l l' h i e e' s s' k k' → n ≡ 6 → Rose k k'
+  pub output_run : IsRun n old new → n ≡ 6 → Rose old.sink new.sink
   output_run (inl r) six = let is = refused_status n r.fault r.status in absurd (omega (arith, six, is))
-  output_run (inr r) six = output_cause r.outcome (session_status r.outcome n files files' r.ends (omega (arith, six))) r.caused six
+  output_run (inr r) six = output_cause r.outcome (session_status r.outcome n old.files new.files r.ends (omega (arith, six))) r.caused six
 
-  opened_or_not : (f : StoreFault) → n ≡ opening_status f → FailsToOpen disk files files' f → (Rose files files' → ⊥) → (n ≡ 0) ⊎ ((n ≡ 3) ⊎ (n ≡ 4))
+  opened_or_not : (f : StoreFault) → n ≡ opening_status f → FailsToOpen old.disk old.files new.files f → (Rose old.files new.files → ⊥) → (n ≡ 0) ⊎ ((n ≡ 3) ⊎ (n ≡ 4))
   opened_or_not fault.Failed is cause never = absurd (never cause)
   opened_or_not (fault.Damaged file place) is cause never = inr (inl is)
   opened_or_not fault.NoMem is cause never = inr (inr is)
 
-  closed_or_not : (o : Outcome) → EndsWith o n files files' → (Rose files files' → ⊥) → n ≡ status o
+  closed_or_not : (o : Outcome) → EndsWith o n old.files new.files → (Rose old.files new.files → ⊥) → n ≡ status o
   closed_or_not o (inl is) never = is
   closed_or_not o (inr closing) never = absurd (never closing.1)
 
-  pub whole_run : IsRun n disk disk' files files' a a' l l' h i e e' s s' k k' → IsWhole l → (Rose files files' → ⊥) → (Rose s s' → ⊥) → (Rose k k' → ⊥) → (n ≡ 0) ⊎ ((n ≡ 3) ⊎ (n ≡ 4))
+  pub whole_run : IsRun n old new → IsWhole old.left → (Rose old.files new.files → ⊥) → (Rose old.source new.source → ⊥) → (Rose old.sink new.sink → ⊥) → (n ≡ 0) ⊎ ((n ≡ 3) ⊎ (n ≡ 4))
   whole_run (inl r) whole never read written = opened_or_not r.fault r.status r.cause never
   whole_run (inr r) whole never read written =
       ⊎_elim (λ (zero : n ≡ 0). inl zero) (λ (four : n ≡ 4). inr (inr four))
-      (whole_is_answered r.outcome n l l' h i e e' s s' k k' (closed_or_not r.outcome r.ends never) r.ran r.caused whole read written)
+      (whole_is_answered r.outcome n old.left old new (closed_or_not r.outcome r.ends never) r.ran r.caused whole read written)
 
-  not_one : IsRun n disk disk' files files' a a' l l' h i e e' s s' k k' → n ≢ 1
+  not_one : IsRun n old new → n ≢ 1
   not_one (inl r) one = let is = refused_status n r.fault r.status in omega (arith, one, is)
-  not_one (inr r) one = (status_is_not r.outcome).0 (sym (session_status r.outcome n files files' r.ends (omega (arith, one))) ∙ one)
+  not_one (inr r) one = (status_is_not r.outcome).0 (sym (session_status r.outcome n old.files new.files r.ends (omega (arith, one))) ∙ one)
 
-  pub never_one : IsRun n disk disk' files files' a a' l l' h i e e' s s' k k' → n ≢ 1
+  pub never_one : IsRun n old new → n ≢ 1
   never_one r = not_one r
 
 -- ---- the parts of a run
@@ -163,28 +164,31 @@ ends_since o n first before now later (inr closing) = inr (closing.0, rose_since
 same_start : (r : Recovered) (k : KeptState) (keys : RedisMap) (faults : ℕ) → r.sequence ≡ k.sequence → store_of (record { keys = keys; floor = r.floor; pins = [] }) k faults ≡ store_from r keys faults
 same_start r k keys faults sequence = λ j. record { state = record { keys = keys; floor = r.floor; pins = [] }; sequence = sym sequence j; faults = faults }
 
-pub served_run : (n : ℕ) (old opened ended new : Disk) (f0 f1 f2 f3 : ℕ) (k k' : KeptState) (o : Outcome) (a a' l l' h i : Known) (e e' : Bool) (s s' t t' : ℕ)
-    → IsOpened old opened k → f0 ≤ f1 → f1 ≤ f2 → f2 ≤ f3
-    → (IsKept opened k → IsSession o k k' f1 f2 ended a a' l l' h i e e') → IsCaused o s s' t t'
-    → EndsWith o n f2 f3 → (n ≡ 0 → IsKept ended k' → (s : State) → StandsFor k' s → LeavesKeys new s) → (IsKept ended k' → Keeps new k'.rows k'.written ⊎ KeepsOrMore new k'.rows k'.written k'.sequence)
-    → IsRun n old new f0 f3 a a' l l' h i e e' s s' t t'
-served_run n old opened ended new f0 f1 f2 f3 k k' o a a' l l' h i e e' s s' t t' opening later more closing session caused ends closed unclosed =
+-- A store was opened on this outside, a session was served from the disk and the count of the opening on, and the store was
+-- closed on that which the session left.
+pub served_run : (n : ℕ) (old : Outside) (opened : Disk) (f1 : ℕ) (ended : Outside) (new : Disk) (f3 : ℕ) (k k' : KeptState) (o : Outcome)
+    → IsOpened old.disk opened k → old.files ≤ f1 → f1 ≤ ended.files → ended.files ≤ f3
+    → (IsKept opened k → IsSession o k k' (record old { disk = opened; files = f1 }) ended) → IsCaused o old.source ended.source old.sink ended.sink
+    → EndsWith o n ended.files f3 → (n ≡ 0 → IsKept ended.disk k' → (s : State) → StandsFor k' s → LeavesKeys new s) → (IsKept ended.disk k' → Keeps new k'.rows k'.written ⊎ KeepsOrMore new k'.rows k'.written k'.sequence)
+    → IsRun n old (record ended { disk = new; files = f3 })
+served_run n old opened f1 ended new f3 k k' o opening later more closing session caused ends closed unclosed =
     let went = session opening.keeps in
     inr (record {
       outcome = o;
-      ran = went.ran;
+      ran = record { taken = went.ran.taken; served = went.ran.served; answers = went.ran.answers; line = went.ran.line; took = went.ran.took; limit = went.ran.limit; ends = went.ran.ends; wrote = went.ran.wrote };
       caused = caused;
-      ends = ends_since o n f0 f2 f3 (omega (arith, later, more)) ends;
+      ends = ends_since o n old.files ended.files f3 (omega (arith, later, more)) ends;
       opened = record { start = opening.state; begins = opening.start; faults = f1; since = later; holds = λ keys means. leads_to went keys means };
     })
   where
-    leads_to : (went : IsSession o k k' f1 f2 ended a a' l l' h i e e') (keys : RedisMap) → Means opening.state.rows opening.state.floor keys → Went n new f3 went.ran.served went.ran.answers a a' (store_from opening.state keys f1)
+    leads_to : (went : IsSession o k k' (record old { disk = opened; files = f1 }) ended) (keys : RedisMap) → Means opening.state.rows opening.state.floor keys
+        → Went n (record ended { disk = new; files = f3 }) went.ran.served went.ran.answers old.readings (store_from opening.state keys f1)
     leads_to went keys means =
-        let on = went.leads (record { keys = keys; floor = opening.state.floor; pins = [] }) (opened_stands old opened k opening keys means) in
+        let on = went.leads (record { keys = keys; floor = opening.state.floor; pins = [] }) (opened_stands old.disk opened k opening keys means) in
         record {
-          last = store_of on.state k' f2;
+          last = store_of on.state k' ended.files;
           until = closing;
-          talked = subst (λ (x : StoreState). Talked x (store_of on.state k' f2) went.ran.served went.ran.answers a a') (same_start opening.state k keys f1 opening.sequence) on.talked;
+          talked = subst (λ (x : StoreState). Talked x (store_of on.state k' ended.files) went.ran.served went.ran.answers old.readings ended.readings) (same_start opening.state k keys f1 opening.sequence) on.talked;
           kept = λ zero. closed zero on.keeps on.state on.stands;
           kept_or_more = record { store = k'; stands = on.stands; leaves = unclosed on.keeps };
         }

@@ -1,59 +1,55 @@
 -- A session at the desk of a store that is kept by a log.
-use Rattle.std.proofs.Common.{◌≡◌, ◌≤◌, ◌∷◌, [], ℕ, Bool, List, Option, sym, ap, subst, arith}
+use Rattle.std.proofs.Common.{◌≡◌, ◌≤◌, [], ℕ, Bool, List, Option, sym, ap, subst, arith}
 use Rattle.kv_base.specs.Map.{Bytes}
 use Rattle.kv_outside.specs.Disk.{Disk}
-use Rattle.redis_model.specs.Desk.{state_at, last_sequence}
+use Rattle.redis_model.specs.Desk.{last_sequence}
 use Rattle.redis_model.specs.Machine.{State}
+use Rattle.redis_model.specs.Places.{state_at}
 use Rattle.session.specs.declared.answer.Answer.{Answer}
 use Rattle.session.specs.declared.session.Outcome.{Outcome}
 use Rattle.session.specs.Session.{Session}
 use Rattle.session.specs.Talk.{Talks}
 use Rattle.log_store.specs.Keeping.{StoreState as KeptState, IsKept, StandsFor}
-use Rattle.kv_server.specs.Script.{IsSession, LeadsOn, Talked, store_of}
+use Rattle.kv_server.specs.Outside.{Outside}
+use Rattle.kv_server.specs.Script.{IsSession, LeadsOn}
+use Rattle.kv_server.specs.Standing.{DeskParts}
 use Rattle.kv_server.proofs.Output.{Known, ran_at, went_at, later_at}
-use Rattle.kv_server.proofs.ToldDesk.{told_at, sequence_at, alone, mark, is_marked, begins_to_stand}
+use Rattle.kv_server.proofs.ToldDesk.{told_at, sequence_at, alone, opened_as, begins_to_stand}
 
-module _ {D : Type 0} (kept : D → KeptState) (disk : D → Disk) (faults : D → ℕ) (readings : D → Option (List ℕ)) (last : D → Option ℕ) (met body : D → ℕ) where
+module _ {D : Type 0} (parts : D → DeskParts) where
   -- from a state that the store stood for
-  leads_on : (d d' : D) (served : List (List Bytes)) (answers : List Answer) (s : State) → Talks (told_at kept disk faults readings last met body) d d' served answers → IsKept (disk d) (kept d) → (kept d).sequence ≤ last_sequence → StandsFor (kept d) s
-      → LeadsOn (kept d) (kept d') (faults d) (faults d') (disk d') s served answers (readings d) (readings d')
+  leads_on : (d d' : D) (served : List (List Bytes)) (answers : List Answer) (s : State) → Talks (told_at parts) d d' served answers → IsKept (parts d).disk (parts d).kept → (parts d).kept.sequence ≤ last_sequence → StandsFor (parts d).kept s
+      → LeadsOn (parts d).kept (parts d').kept (parts d).faults (parts d').faults (parts d').disk s served answers (parts d).readings (parts d').readings
   leads_on d d' served answers s talk keeps limit stands =
-      let k = kept d in
-      let begun = begins_to_stand k (disk d) s keeps limit stands in
-      let went = went_at (told_at kept disk faults readings last met body) (sequence_at kept disk faults readings last met body) (alone kept disk faults readings last met body) d d' served answers
-      s (mark k ∷ []) (is_marked k) begun.1 talk in
-      record {
-        state = state_at s went.seen;
-        stands = went.stands.store;
-        keeps = went.stands.keeps;
-        talked = subst (λ (x : State). Talked (store_of x k (faults d)) (store_of (state_at s went.seen) (kept d') (faults d')) served answers (readings d) (readings d')) begun.0 went.talked;
-      }
+      let k = (parts d).kept in
+      let went = went_at (told_at parts) (sequence_at parts) (alone parts) d d' served answers (opened_as k s) [] (begins_to_stand k (parts d).disk s keeps limit stands) talk in
+      record { state = state_at s went.seen; stands = went.stands.store; keeps = went.stands.keeps; talked = went.talked }
 
-  at_desk : (o : Outcome) (d d' : D) (l l' h i : Known) (b b' : Bool) → Session (told_at kept disk faults readings last met body) o d d' l l' h i b b' → (kept d).sequence ≤ last_sequence → IsKept (disk d) (kept d)
-      → IsSession o (kept d) (kept d') (faults d) (faults d') (disk d') (readings d) (readings d') l l' h i b b'
-  at_desk o d d' l l' h i b b' session limit keeps =
-      let r = ran_at (told_at kept disk faults readings last met body) o d d' l l' h i b b' session in
-      record { ran = r.0; leads = λ s stands. leads_on d d' r.0.served r.0.answers s r.1 keeps limit stands }
+-- what the desk leads on from is what the store and the outside were, and were left as
+parts_are : (d : DeskParts) (k : KeptState) (disk : Disk) (faults : ℕ) (readings : Known) → d.kept ≡ k → d.disk ≡ disk → d.faults ≡ faults → d.readings ≡ readings
+    → d ≡ record d { kept = k; disk = disk; faults = faults; readings = readings }
+parts_are d k disk faults readings kept_is disk_is faults_is readings_is = λ i. record d { kept = kept_is i; disk = disk_is i; faults = faults_is i; readings = readings_is i }
 
-  pub served_by : (o : Outcome) (d d' : D) (l l' h i : Known) (b b' : Bool) (k k' : KeptState) (n n' : ℕ) (disk0 disk1 : Disk) (r r' : Known)
-      → kept d ≡ k → faults d ≡ n → disk d ≡ disk0 → readings d ≡ r → met d ≡ k.sequence → met d ≤ last_sequence → kept d' ≡ k' → faults d' ≡ n' → disk d' ≡ disk1 → readings d' ≡ r'
-      → Session (told_at kept disk faults readings last met body) o d d' l l' h i b b' → IsKept disk0 k → IsSession o k k' n n' disk1 r r' l l' h i b b'
-  served_by o d d' l l' h i b b' k k' n n' disk0 disk1 r r' is_kept is_faults is_disk is_read met_is limit is_kept' is_faults' is_disk' is_read' session keeps =
-      let begun : IsKept (disk d) (kept d) = subst (λ (s : KeptState). IsKept (disk d) s) (sym is_kept) (subst (λ (x : Disk). IsKept x k) (sym is_disk) keeps) in
-      let same : (kept d).sequence ≡ k.sequence = ap (λ (x : KeptState). x.sequence) is_kept in
-      let went = at_desk o d d' l l' h i b b' session (omega (arith, same, met_is, limit)) begun in
+module _ {D : Type 0} (parts : D → DeskParts) where
+  pub served_by : (o : Outcome) (d d' : D) (k k' : KeptState) (old new : Outside)
+      → (parts d).kept ≡ k → (parts d).disk ≡ old.disk → (parts d).faults ≡ old.files → (parts d).readings ≡ old.readings
+      → (parts d').kept ≡ k' → (parts d').disk ≡ new.disk → (parts d').faults ≡ new.files → (parts d').readings ≡ new.readings
+      → (parts d).sequence ≡ k.sequence → (parts d).sequence ≤ last_sequence
+      → Session (told_at parts) o d d' old.left new.left old.held new.held old.ended new.ended → IsKept old.disk k → IsSession o k k' old new
+  served_by o d d' k k' old new kept disk faults readings kept' disk' faults' readings' met limit session keeps =
+      let begins = parts_are (parts d) k old.disk old.files old.readings kept disk faults readings in
+      let ends = parts_are (parts d') k' new.disk new.files new.readings kept' disk' faults' readings' in
+      let r = ran_at (told_at parts) o d d' old new session in
       record {
-        ran = went.ran;
+        ran = r.0;
         leads = λ s stands.
-            subst (λ (x : Known). LeadsOn k k' n n' disk1 s went.ran.served went.ran.answers x r') is_read
-            (subst (λ (x : Known). LeadsOn k k' n n' disk1 s went.ran.served went.ran.answers (readings d) x) is_read'
-            (subst (λ (x : ℕ). LeadsOn k k' x n' disk1 s went.ran.served went.ran.answers (readings d) (readings d')) is_faults
-            (subst (λ (x : ℕ). LeadsOn k k' (faults d) x disk1 s went.ran.served went.ran.answers (readings d) (readings d')) is_faults'
-            (subst (λ (x : Disk). LeadsOn k k' (faults d) (faults d') x s went.ran.served went.ran.answers (readings d) (readings d')) is_disk'
-            (subst (λ (x : KeptState). LeadsOn k x (faults d) (faults d') (disk d') s went.ran.served went.ran.answers (readings d) (readings d')) is_kept'
-            (subst (λ (x : KeptState). LeadsOn x (kept d') (faults d) (faults d') (disk d') s went.ran.served went.ran.answers (readings d) (readings d')) is_kept
-            (went.leads s (subst (λ (x : KeptState). StandsFor x s) (sym is_kept) stands))))))));
+            subst (λ (p : DeskParts). LeadsOn p.kept k' p.faults new.files new.disk s r.0.served r.0.answers p.readings new.readings) begins
+            (subst (λ (q : DeskParts). LeadsOn (parts d).kept q.kept (parts d).faults q.faults q.disk s r.0.served r.0.answers (parts d).readings q.readings) ends
+            (leads_on parts d d' r.0.served r.0.answers s r.1
+            (subst (λ (p : DeskParts). IsKept p.disk p.kept) (sym begins) keeps)
+            (let same : (parts d).kept.sequence ≡ k.sequence = ap (λ (x : KeptState). x.sequence) kept in omega (arith, same, met, limit))
+            (subst (λ (p : DeskParts). StandsFor p.kept s) (sym begins) stands)));
       }
 
-  pub count_later : (o : Outcome) (d d' : D) (l l' h i : Known) (b b' : Bool) (n n' : ℕ) → faults d ≡ n → faults d' ≡ n' → Session (told_at kept disk faults readings last met body) o d d' l l' h i b b' → n ≤ n'
-  count_later o d d' l l' h i b b' n n' is is' session = let later = later_at (told_at kept disk faults readings last met body) o d d' l l' h i b b' session in omega (arith, is, is', later)
+  pub count_later : (o : Outcome) (d d' : D) (l l' h i : Known) (b b' : Bool) (n n' : ℕ) → (parts d).faults ≡ n → (parts d').faults ≡ n' → Session (told_at parts) o d d' l l' h i b b' → n ≤ n'
+  count_later o d d' l l' h i b b' n n' is is' session = let later = later_at (told_at parts) o d d' l l' h i b b' session in omega (arith, is, is', later)

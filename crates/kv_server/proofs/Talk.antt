@@ -1,36 +1,42 @@
 -- What a session says at a desk whose caller is alone is what the machine says.
-use Rattle.std.proofs.Common.{◌≡◌, ◌≤◌, ◌<◌, ◌+◌, arith, ⊎_elim, inl, inr, ℕ, Bool, false, List, [], ◌∷◌, ◌++◌, length, Option, Some, Result, Ok, Err, refl, sym, ap, subst, ◌∙◌}
-use Rattle.std.specs.Prelude.{IsFalse, OnErr, ◌==◌, if◌then◌else◌}
+use Rattle.std.proofs.Common.{◌≡◌, ◌≤◌, ◌<◌, ◌+◌, arith, ⊎_elim, inl, inr, ℕ, Bool, true, false, List, [], ◌∷◌, ◌++◌, length, Option, Some, None, Result, Ok, Err, refl, sym, ap, subst, ◌∙◌}
+use Rattle.std.specs.Prelude.{IsFalse, IsSome, OnErr, ◌==◌, if◌then◌else◌}
 use Rattle.std.proofs.lemmas.List.{append-nil}
 use Rattle.kv_base.specs.Map.{Bytes}
 use Rattle.kv_outside.specs.Readings.{TakesAll, takes_none, takes_one, takes_then}
-use Rattle.batch_codec.specs.Batches.{Batch as RowBatch}
+use Rattle.batch_codec.specs.Batches.{Batch}
 use Rattle.redis_model.specs.declared.command.Command.{Command}
 use Rattle.redis_model.specs.declared.command.Cmds.TheVariants.{One}
 use Rattle.kv_base.specs.declared.name.FileName.{FileName}
 use Rattle.redis_model.specs.declared.desk.DeskFault.{DeskFault}
 use Rattle.redis_model.specs.declared.desk.DeskFault.TheVariants as fault
-use Rattle.redis_model.specs.declared.history.Note.{Note}
-use Rattle.redis_model.specs.declared.history.Note.TheVariants.{Batch}
+use Rattle.redis_model.specs.declared.history.JobKind.{JobKind}
 use Rattle.redis_model.specs.declared.history.Step.{Step}
 use Rattle.redis_model.specs.declared.history.Step.TheVariants.{Tick, Call}
 use Rattle.redis_model.specs.declared.history.Place.{Place}
 use Rattle.redis_model.specs.declared.reply.Reply.{Reply}
 use Rattle.redis_model.specs.About.{writes}
 use Rattle.redis_model.specs.Apply.{due}
+use Rattle.redis_model.specs.Asks as ask
+use Rattle.redis_model.specs.Built.{built}
 use Rattle.redis_model.specs.DeskState.{DeskState}
-use Rattle.redis_model.specs.Desk.{steps_of, state_at, mine, has_pin, entry_of, IsTicked, IsWithheld as IsWithheldEntry, Entered, Withheld, Leaves, HasReason, last_sequence}
+use Rattle.redis_model.specs.Places.{Opening, steps_of, state_at}
+use Rattle.redis_model.specs.Desk.{mine, has_pin, IsTicked, IsWithheld as IsWithheldEntry, Entered, Withheld, Leaves, HasReason, can_write, last_sequence}
 use Rattle.redis_model.specs.Legal.{calls_of}
 use Rattle.redis_model.specs.Machine.{State, step, moment_at, at_moment}
 use Rattle.redis_model.specs.TouchedLaws.{reading_touches_nothing}
 use Rattle.lives_model.specs.Rows.{Rows}
 use Rattle.lives_model.specs.Means.{Means}
 use Rattle.lives_model.specs.Plans.{IsPlanFor}
+use Rattle.cmd_words.specs.declared.fault.CommandFault.{CommandFault}
+use Rattle.cmd_words.specs.declared.parsed.Parsed.{Parsed}
+use Rattle.cmd_words.specs.declared.parsed.Parsed.TheVariants as parsed
 use Rattle.session.specs.declared.answer.Answer.{Answer}
+use Rattle.session.specs.declared.answer.Answer.TheVariants as answer
 use Rattle.session.specs.Answer.{answered}
 use Rattle.session.specs.Talk.{Asked, ToDesk, Own, asked, Asks, TurnBy as TurnAt, Talks}
 use Rattle.log_store.specs.Playing.{batches_of, planned_for}
-use Rattle.kv_server.specs.Alone.{IsOwnCall, AreOwnCalls, batches_at, batches_in, IsBehind, HasSequence, batches_in-append, batches_by, state_more}
+use Rattle.kv_server.specs.Alone.{IsOwnCall, AreOwnCalls, batches_at, batches_in, batches_in-append, batches_by, state_more}
 use Rattle.kv_server.specs.Dialog.{StoreState, HasFault, IsWithheld, Answers, TurnBy, Dialog}
 
 -- ---- histories of one caller
@@ -67,7 +73,7 @@ none_before now ps all ticked = ⊎_elim
 pub record IsUnwritten (s : State) (sequence now : ℕ) (c : Command) (body : ℕ) : Type 0 where
   pub rows : Rows
   pub means : Means rows (moment_at s now) (at_moment s now).keys
-  pub batch : RowBatch
+  pub batch : Batch
   pub answer : Reply
   pub until : Option ℕ
   pub plan : IsPlanFor rows (moment_at s now) sequence (at_moment s now).keys (One c) batch answer until
@@ -77,42 +83,22 @@ pub record IsUnwritten (s : State) (sequence now : ℕ) (c : Command) (body : �
 -- what is known of a desk whose caller is alone, by the sequence of its last batch
 pub record IsForOne {D : Type 0} (told : D → DeskState) (sequence : D → ℕ) : Type 0 where
   pub number : (d : D) → (told d).number ≡ 0
-  pub calls : (d : D) (first : State) (seen : List Place) → (told d).stands first seen → AreOwnCalls seen
-  pub free : (d : D) (first : State) (seen : List Place) → (told d).stands first seen → has_pin (state_at first seen) 0 ≡ false
-  pub sequences : (d : D) (first : State) (seen : List Place) → (told d).stands first seen → HasSequence first seen (sequence d)
-  pub met : (d : D) (now : ℕ) (c : Command) → (told d).planned now c → (told d).sequence ≡ sequence d
-  pub limit : (d : D) (first : State) (seen : List Place) → (told d).stands first seen → sequence d ≤ last_sequence
-  pub unwritten : (d : D) (first : State) (seen : List Place) (now : ℕ) (c : Command) → (told d).stands first seen → (told d).planned now c → 0 < (told d).body → IsUnwritten (state_at first seen) (sequence d) now c (told d).body
+  pub calls : (d : D) (opening : Opening) (seen : List Place) → (told d).stands opening seen → AreOwnCalls seen
+  pub free : (d : D) (opening : Opening) (seen : List Place) → (told d).stands opening seen → has_pin (state_at opening.state seen) 0 ≡ false
+  pub unpinned : (d : D) → (told d).pinned ≡ false
+  pub batches : (d : D) (opening : Opening) (seen : List Place) → (told d).stands opening seen → sequence d ≡ opening.last + batches_in opening.state seen
+  pub met : (d : D) (now : ℕ) (c : Command) → (told d).planned now (ask.Call c) → (told d).sequence ≡ sequence d
+  pub limit : (d : D) (opening : Opening) (seen : List Place) → (told d).stands opening seen → sequence d ≤ last_sequence
+  pub unwritten : (d : D) (opening : Opening) (seen : List Place) (now : ℕ) (c : Command) → (told d).stands opening seen → (told d).planned now (ask.Call c) → 0 < (told d).body
+      → IsUnwritten (state_at opening.state seen) (sequence d) now c (told d).body
   pub on_grammar : (d : D) (file : FileName) (place : ℕ) → (told d).off file place → ⊥
 
--- ---- the sequence, where it is noted in front
-
--- the first place notes a sequence
-pub record IsMarked (seen : List Place) : Type 0 where
-  pub first : Place
-  pub behind : List Place
-  pub number : ℕ
-  pub noted : first.note ≡ Batch number
-  pub is : seen ≡ first ∷ behind
-
-abbrev marked_on : (seen added : List Place) → IsMarked seen → IsMarked (seen ++ added)
-marked_on seen added m = record { first = m.first; behind = m.behind ++ added; number = m.number; noted = m.noted; is = ap (λ (ps : List Place). ps ++ added) m.is }
-
-module _ (start : State) where
-  sequence_of : (seen : List Place) (m : IsMarked seen) (n : ℕ) → HasSequence start seen n → n ≡ m.number + batches_in (step start m.first.what).1 m.behind
-  sequence_of seen m n has = subst (λ (note : Note). IsBehind note (step start m.first.what).1 m.behind n) m.noted (subst (λ (ps : List Place). HasSequence start ps n) m.is has)
-
-  -- it goes on by the batches
-  sequence_grows : (seen added after : List Place) → IsMarked seen → after ≡ seen ++ added → (n n' : ℕ) → HasSequence start seen n → HasSequence start after n' → n' ≡ n + batches_in (state_at start seen) added
-  sequence_grows seen added after m grown n n' has has' =
-      let was = sequence_of seen m n has in
-      let is = sequence_of (seen ++ added) (marked_on seen added m) n' (subst (λ (ps : List Place). HasSequence start ps n') grown has') in
-      let both = batches_in-append (step start m.first.what).1 m.behind added in
-      let here : batches_in (state_at (step start m.first.what).1 m.behind) added ≡ batches_in (state_at start seen) added = ap (λ (ps : List Place). batches_in (state_at start ps) added) (sym m.is) in
-      omega (arith, was, is, both, here)
-
-  sequence_stays : (seen : List Place) → IsMarked seen → (n n' : ℕ) → HasSequence start seen n → HasSequence start seen n' → n' ≡ n
-  sequence_stays seen m n n' has has' = sequence_of seen m n' has' ∙ sym (sequence_of seen m n has)
+-- the sequence goes on by the batches
+sequence_grows : (start : State) (last : ℕ) (seen added after : List Place) → after ≡ seen ++ added → (n n' : ℕ) → n ≡ last + batches_in start seen → n' ≡ last + batches_in start after → n' ≡ n + batches_in (state_at start seen) added
+sequence_grows start last seen added after grown n n' was is =
+    let all : batches_in start after ≡ batches_in start (seen ++ added) = ap (batches_in start) grown in
+    let both = batches_in-append start seen added in
+    omega (arith, was, is, all, both)
 
 -- ---- a call that was entered or withheld, by the machine
 
@@ -127,13 +113,13 @@ no_batch : (s : State) (now : ℕ) (c : Command) → IsFalse (writes c) → batc
 no_batch s now c reads = ap (λ (ks : List Bytes). if length ks == 0 then 0 else 1) (reading_touches_nothing (at_moment s now).keys (moment_at s now) c reads)
 
 module _ (first : State) (seen after : List Place) (now : ℕ) (c : Command) (all : AreOwnCalls after) (free : has_pin (state_at first seen) 0 ≡ false) where
-  entered_is : (reply : Reply) → Entered 0 first seen now c reply after → (step (state_at first seen) (Call now 0 c) ≡ (Some reply, state_at first after)) × Grows first seen after (batches_of (state_at first seen) now (One c))
+  entered_is : (reply : Reply) → Entered 0 first seen now (ask.Call c) reply after → (step (state_at first seen) (Call now 0 c) ≡ (Some reply, state_at first after)) × Grows first seen after (batches_of (state_at first seen) now (One c))
   entered_is reply p =
       let apart = own_apart (seen ++ p.before) (p.own ∷ p.behind) (subst AreOwnCalls p.grown all) in
       let front = own_apart seen p.before apart.0 in
       let before : p.before ≡ [] = none_before now p.before front.1 p.ticked in
       let behind : p.behind ≡ [] = no_steps p.behind (sym (all_mine p.behind apart.1.1) ∙ p.once) in
-      let is : p.own.what ≡ Call now 0 c = p.is ∙ ap (λ (b : Bool). entry_of b now 0 c) free in
+      let is : p.own.what ≡ Call now 0 c = p.is ∙ ap (λ (b : Bool). ask.entry_of b now 0 (ask.Call c)) free in
       let grown : after ≡ seen ++ p.own ∷ [] = p.grown ∙ ap (λ (xs : List Place). (seen ++ xs) ++ p.own ∷ p.behind) before ∙ ap (λ (xs : List Place). xs ++ p.own ∷ p.behind) (append-nil seen) ∙ ap (λ (xs : List Place). seen ++ p.own ∷ xs) behind in
       let answer : (step (state_at first seen) (Call now 0 c)).0 ≡ Some reply =
       ap (λ (e : Step). (step (state_at first seen) e).0) (sym is) ∙ ap (λ (xs : List Place). (step (state_at first xs) p.own.what).0) (sym (append-nil seen) ∙ ap (λ (xs : List Place). seen ++ xs) (sym before)) ∙ p.answered in
@@ -142,70 +128,85 @@ module _ (first : State) (seen after : List Place) (now : ℕ) (c : Command) (al
       let one : batches_at (state_at first seen) p.own.what ≡ batches_of (state_at first seen) now (One c) = ap (batches_at (state_at first seen)) is in
       (λ i. (answer i, next i), record { added = p.own ∷ []; grown = grown; batches = omega (arith, one) })
 
-  withheld_is : Withheld 0 first seen now c after → IsWithheld (state_at first seen) now c (state_at first after) × Grows first seen after 0
+  withheld_is : Withheld 0 first seen now (ask.Call c) after → IsWithheld (state_at first seen) now c (state_at first after) × Grows first seen after 0
   withheld_is p = by_added p.added (own_apart seen p.added (subst AreOwnCalls p.grown all)).1 p.grown p.own
     where
       reads_no_batch : (e : Step) → e ≡ Call now 0 c → IsFalse (writes c) → batches_at (state_at first seen) e + 0 ≡ 0
       reads_no_batch e is reads = ap (λ (x : Step). batches_at (state_at first seen) x + 0) is ∙ ap (λ (n : ℕ). n + 0) (no_batch (state_at first seen) now c reads)
 
-      by_added : (added : List Place) → AreOwnCalls added → after ≡ seen ++ added → IsWithheldEntry 0 (has_pin (state_at first seen) 0) now c (mine 0 added)
+      by_added : (added : List Place) → AreOwnCalls added → after ≡ seen ++ added → IsWithheldEntry 0 (has_pin (state_at first seen) 0) now (ask.Call c) (mine 0 added)
           → IsWithheld (state_at first seen) now c (state_at first after) × Grows first seen after 0
       by_added [] own grown w = (inl (ap (state_at first) (grown ∙ append-nil seen)), record { added = []; grown = grown; batches = refl })
       by_added (p ∷ []) own grown w =
           ⊎_elim
           (λ (tick : p.what ≡ Tick now 0). absurd (subst IsOwnCall tick own.0))
-          (λ (read : (p.what ≡ entry_of (has_pin (state_at first seen) 0) now 0 c) × IsFalse (writes c)).
-          let is : p.what ≡ Call now 0 c = read.0 ∙ ap (λ (b : Bool). entry_of b now 0 c) free in (
+          (λ (read : (p.what ≡ ask.entry_of (has_pin (state_at first seen) 0) now 0 (ask.Call c)) × IsFalse (writes c)).
+          let is : p.what ≡ Call now 0 c = read.0 ∙ ap (λ (b : Bool). ask.entry_of b now 0 (ask.Call c)) free in (
             inr (read.1, ap (state_at first) grown ∙ state_more first seen p ∙ ap (λ (e : Step). (step (state_at first seen) e).1) is),
             record { added = p ∷ []; grown = grown; batches = reads_no_batch p.what is read.1 },
           ))
-          (subst (IsWithheldEntry 0 (has_pin (state_at first seen) 0) now c) (own_is_mine p.what [] own.0) w)
+          (subst (IsWithheldEntry 0 (has_pin (state_at first seen) 0) now (ask.Call c)) (own_is_mine p.what [] own.0) w)
       by_added (p ∷ q ∷ ps) own grown w =
-          absurd (subst (IsWithheldEntry 0 (has_pin (state_at first seen) 0) now c) (own_is_mine p.what (q.what ∷ steps_of ps) own.0 ∙ ap (λ (es : List Step). p.what ∷ es) (own_is_mine q.what (steps_of ps) own.1.0)) w)
+          absurd (subst (IsWithheldEntry 0 (has_pin (state_at first seen) 0) now (ask.Call c)) (own_is_mine p.what (q.what ∷ steps_of ps) own.0 ∙ ap (λ (es : List Step). p.what ∷ es) (own_is_mine q.what (steps_of ps) own.1.0)) w)
+
+-- ---- what is asked
+
+-- one command at a time, by now
+abbrev IsOfCalls : Asked → Type 0
+IsOfCalls (ToDesk (ask.Call c)) = Unit {0}
+IsOfCalls (ToDesk _) = ⊥
+IsOfCalls (Own said) = Unit {0}
+
+of_built : (c : Command) (b : Bool) → IsOfCalls (if b then ToDesk (ask.Call c) else Own answer.Unserved)
+of_built c true = tt
+of_built c false = tt
+
+of_calls : (read : Result Parsed CommandFault) → IsOfCalls (asked read)
+of_calls (Ok (parsed.Data c)) = of_built c (built c)
+of_calls (Ok _) = tt
+of_calls (Err fault) = tt
 
 -- ---- a talk
 
 module _ {D : Type 0} (told : D → DeskState) (sequence : D → ℕ) where
   -- the store at a desk that stands for this history
-  abbrev pub store_at : D → State → List Place → StoreState
-  store_at d first seen = record { state = state_at first seen; sequence = sequence d; faults = (told d).faults }
+  abbrev pub store_at : D → Opening → List Place → StoreState
+  store_at d opening seen = record { state = state_at opening.state seen; sequence = sequence d; faults = (told d).faults }
 
 -- what a desk whose caller is alone comes to by these requests
-pub record Said {D : Type 0} (told : D → DeskState) (sequence : D → ℕ) (old new : D) (first : State) (s : StoreState) (served : List (List Bytes)) (answers : List Answer) : Type 0 where
+pub record Said {D : Type 0} (told : D → DeskState) (sequence : D → ℕ) (old new : D) (opening : Opening) (s : StoreState) (served : List (List Bytes)) (answers : List Answer) : Type 0 where
   pub nows : List ℕ
   pub readings : TakesAll (told old).readings (told new).readings nows
   pub seen : List Place
-  pub marked : IsMarked seen
-  pub stands : (told new).stands first seen
-  pub dialog : Dialog s served nows answers (store_at told sequence new first seen)
+  pub stands : (told new).stands opening seen
+  pub dialog : Dialog s served nows answers (store_at told sequence new opening seen)
 
 -- what it comes to by one request
-pub record Replied {D : Type 0} (told : D → DeskState) (sequence : D → ℕ) (old new : D) (first : State) (s : StoreState) (a : Asked) (answer : Answer) : Type 0 where
+pub record Replied {D : Type 0} (told : D → DeskState) (sequence : D → ℕ) (old new : D) (opening : Opening) (s : StoreState) (a : Asked) (answer : Answer) : Type 0 where
   pub nows : List ℕ
   pub readings : TakesAll (told old).readings (told new).readings nows
   pub seen : List Place
-  pub marked : IsMarked seen
-  pub stands : (told new).stands first seen
-  pub turn : TurnBy s a nows answer (store_at told sequence new first seen)
+  pub stands : (told new).stands opening seen
+  pub turn : TurnBy s a nows answer (store_at told sequence new opening seen)
 
 module _ {D : Type 0} (told : D → DeskState) (sequence : D → ℕ) (alone : IsForOne told sequence) where
   -- why a call failed that came to this
-  cause_is : (old mid new : D) (first : State) (seen after : List Place) (now : ℕ) (c : Command) (f : DeskFault) → (told mid).faults ≡ (told old).faults → (IsFalse (writes c) → (told new).body ≡ 0) → (told new).planned now c
-      → (told new).stands first after → IsWithheld (state_at first seen) now c (state_at first after) → sequence new ≡ sequence old → HasReason (told mid).faults (told new) (Err f)
-      → HasFault (store_at told sequence old first seen) (store_at told sequence new first after) now c f
-  cause_is old mid new first seen after now c f same idle planned stands withheld stays why = by_fault f why
+  cause_is : (old mid new : D) (opening : Opening) (seen after : List Place) (now : ℕ) (c : Command) (f : DeskFault) → (told mid).faults ≡ (told old).faults → (told new).met ≡ None → (IsFalse (writes c) → (told new).body ≡ 0) → (told new).planned now (ask.Call c)
+      → (told new).stands opening after → IsWithheld (state_at opening.state seen) now c (state_at opening.state after) → sequence new ≡ sequence old → HasReason (told mid).faults (told new) (Err f)
+      → HasFault (store_at told sequence old opening seen) (store_at told sequence new opening after) now c f
+  cause_is old mid new opening seen after now c f same none idle planned stands withheld stays why = by_fault f why
     where
       -- where something was to be written, the state is as it was
-      unwritten : 0 < (told new).body → IsUnwritten (state_at first seen) (sequence old) now c (told new).body
+      unwritten : 0 < (told new).body → IsUnwritten (state_at opening.state seen) (sequence old) now c (told new).body
       unwritten some =
-          let here = alone.unwritten new first after now c stands planned some in
-          subst (λ (n : ℕ). IsUnwritten (state_at first seen) n now c (told new).body) stays
+          let here = alone.unwritten new opening after now c stands planned some in
+          subst (λ (n : ℕ). IsUnwritten (state_at opening.state seen) n now c (told new).body) stays
           (⊎_elim
-          (λ (still : state_at first after ≡ state_at first seen). subst (λ (s : State). IsUnwritten s (sequence new) now c (told new).body) still here)
-          (λ (read : IsFalse (writes c) × (state_at first after ≡ (step (state_at first seen) (Call now 0 c)).1)). absurd (omega (arith, idle read.0, some)))
+          (λ (still : state_at opening.state after ≡ state_at opening.state seen). subst (λ (s : State). IsUnwritten s (sequence new) now c (told new).body) still here)
+          (λ (read : IsFalse (writes c) × (state_at opening.state after ≡ (step (state_at opening.state seen) (Call now 0 c)).1)). absurd (omega (arith, idle read.0, some)))
           withheld)
 
-      by_fault : (f : DeskFault) → HasReason (told mid).faults (told new) (Err f) → HasFault (store_at told sequence old first seen) (store_at told sequence new first after) now c f
+      by_fault : (f : DeskFault) → HasReason (told mid).faults (told new) (Err f) → HasFault (store_at told sequence old opening seen) (store_at told sequence new opening after) now c f
       by_fault fault.IoError why = omega (arith, same, why)
       by_fault fault.NoMem why = tt
       by_fault (fault.Damaged file place) why = absurd (alone.on_grammar new file place why)
@@ -216,79 +217,76 @@ module _ {D : Type 0} (told : D → DeskState) (sequence : D → ℕ) (alone : I
             record { rows = u.rows; means = u.means; batch = u.batch; answer = u.answer; until = u.until; plan = u.plan; long = omega (arith, why.0, u.bytes) },
             λ (full : sequence old ≡ last_sequence). why.1 (alone.met new now c planned ∙ stays ∙ full),
           )
-      by_fault fault.Busy why = absurd why
+      by_fault fault.Busy why = absurd (subst (λ (m : Option JobKind). IsSome m) none why)
 
-  asks_is : (old new : D) (first : State) (seen : List Place) (asking : Command) (answer : Answer) → IsMarked seen → (told old).stands first seen → Asks told old new asking answer
-      → Replied told sequence old new first (store_at told sequence old first seen) (ToDesk asking) answer
-  asks_is old new first seen asking answer marked stood p =
+  asks_is : (old new : D) (opening : Opening) (seen : List Place) (asking : Command) (answer : Answer) → (told old).stands opening seen → Asks told old new (ask.Call asking) answer
+      → Replied told sequence old new opening (store_at told sequence old opening seen) (ToDesk (ask.Call asking)) answer
+  asks_is old new opening seen asking answer stood p =
       let c : Command = due p.now asking in
-      let ready = p.reading.stands first seen stood in
-      let went = p.call.history first seen ready in
+      let ready = p.reading.stands opening seen stood in
+      let went = p.call.history opening seen ready in
       let after = went.0 in
-      let leaves : Leaves 0 first seen p.now c p.result after = subst (λ (n : ℕ). Leaves n first seen p.now c p.result after) (alone.number p.mid) went.3 in
-      let said = by_result p.result after went.1 leaves p.call.reason (p.call.idle first seen ready) p.call.planned in
+      let leaves : Leaves 0 opening.state seen p.now (ask.Call c) p.result after = subst (λ (n : ℕ). Leaves n opening.state seen p.now (ask.Call c) p.result after) (alone.number p.mid) went.3 in
+      let said = by_result p.result after went.1 leaves p.call.reason (λ reads. p.call.idle opening seen ready (subst (λ (b : Bool). IsFalse (can_write b (ask.Call c))) (sym (alone.unpinned p.mid)) reads)) p.call.planned in
       record {
         nows = p.now ∷ [];
         readings = subst (λ (r : Option (List ℕ)). TakesAll (told old).readings r (p.now ∷ [])) (sym p.call.readings) (takes_one (told old).readings (told p.mid).readings p.now p.reading.reading);
         seen = after;
-        marked = subst IsMarked (sym said.1.grown) (marked_on seen said.1.added marked);
         stands = went.1;
-        turn = (p.now, refl, subst (λ (x : Answer). Answers (store_at told sequence old first seen) p.now c x (store_at told sequence new first after)) (sym p.says) said.0, omega (arith, p.reading.faults, p.call.later));
+        turn = (p.now, refl, subst (λ (x : Answer). Answers (store_at told sequence old opening seen) p.now c x (store_at told sequence new opening after)) (sym p.says) said.0, omega (arith, p.reading.faults, p.call.later));
       }
     where
-      by_result : (result : Result Reply DeskFault) (after : List Place) → (told new).stands first after → Leaves 0 first seen p.now (due p.now asking) result after → HasReason (told p.mid).faults (told new) result
-          → (IsFalse (writes (due p.now asking)) → (told new).body ≡ 0) → OnErr result ((told new).planned p.now (due p.now asking))
-          → Answers (store_at told sequence old first seen) p.now (due p.now asking) (answered result) (store_at told sequence new first after) × Grows first seen after (batches_by (state_at first seen) p.now (due p.now asking) result)
+      by_result : (result : Result Reply DeskFault) (after : List Place) → (told new).stands opening after → Leaves 0 opening.state seen p.now (ask.Call (due p.now asking)) result after → HasReason (told p.mid).faults (told new) result
+          → (IsFalse (writes (due p.now asking)) → (told new).body ≡ 0) → OnErr result ((told new).planned p.now (ask.Call (due p.now asking)))
+          → Answers (store_at told sequence old opening seen) p.now (due p.now asking) (answered result) (store_at told sequence new opening after) × Grows opening.state seen after (batches_by (state_at opening.state seen) p.now (due p.now asking) result)
       by_result (Ok reply) after stands l why idle planned =
-          let e = entered_is first seen after p.now (due p.now asking) (alone.calls new first after stands) (alone.free old first seen stood) reply l in
-          let n = sequence_grows first seen e.1.added after marked e.1.grown (sequence old) (sequence new) (alone.sequences old first seen stood) (alone.sequences new first after stands) in
-          ((e.0, omega (arith, n, e.1.batches), alone.limit new first after stands), e.1)
+          let e = entered_is opening.state seen after p.now (due p.now asking) (alone.calls new opening after stands) (alone.free old opening seen stood) reply l in
+          let n = sequence_grows opening.state opening.last seen e.1.added after e.1.grown (sequence old) (sequence new) (alone.batches old opening seen stood) (alone.batches new opening after stands) in
+          ((e.0, omega (arith, n, e.1.batches), alone.limit new opening after stands), e.1)
       by_result (Err f) after stands l why idle planned =
-          let e = withheld_is first seen after p.now (due p.now asking) (alone.calls new first after stands) (alone.free old first seen stood) l in
-          let n = sequence_grows first seen e.1.added after marked e.1.grown (sequence old) (sequence new) (alone.sequences old first seen stood) (alone.sequences new first after stands) in
+          let e = withheld_is opening.state seen after p.now (due p.now asking) (alone.calls new opening after stands) (alone.free old opening seen stood) l in
+          let n = sequence_grows opening.state opening.last seen e.1.added after e.1.grown (sequence old) (sequence new) (alone.batches old opening seen stood) (alone.batches new opening after stands) in
           let stays : sequence new ≡ sequence old = omega (arith, n, e.1.batches) in
-          ((e.0, stays, cause_is old p.mid new first seen after p.now (due p.now asking) f p.reading.faults idle planned stands e.0 stays why), e.1)
+          ((e.0, stays, cause_is old p.mid new first seen after p.now (due p.now asking) f p.reading.faults p.call.met idle planned stands e.0 stays why), e.1)
 
-  turned : (old new : D) (first : State) (seen : List Place) (a : Asked) (answer : Answer) → IsMarked seen → (told old).stands first seen → TurnAt told old new a answer
-      → Replied told sequence old new first (store_at told sequence old first seen) a answer
-  turned old new first seen (Own said) answer marked stood p = record {
+  turned : (old new : D) (opening : Opening) (seen : List Place) (a : Asked) (answer : Answer) → IsOfCalls a → (told old).stands opening seen → TurnAt told old new a answer
+      → Replied told sequence old new opening (store_at told sequence old opening seen) a answer
+  turned old new opening seen (Own said) answer calls stood p = record {
     nows = [];
     readings = subst (λ (d : D). TakesAll (told old).readings (told d).readings []) (sym p.1) (takes_none (told old).readings);
     seen = seen;
-    marked = marked;
-    stands = subst (λ (d : D). (told d).stands first seen) (sym p.1) stood;
-    turn = (p.0, refl, ap (λ (d : D). store_at told sequence d first seen) p.1);
+    stands = subst (λ (d : D). (told d).stands opening seen) (sym p.1) stood;
+    turn = (p.0, refl, ap (λ (d : D). store_at told sequence d opening seen) p.1);
   }
-  turned old new first seen (ToDesk c) answer marked stood p = asks_is old new first seen c answer marked stood p
+  turned old new opening seen (ToDesk (ask.Call c)) answer calls stood p = asks_is old new opening seen c answer stood p
+  turned old new opening seen (ToDesk _) answer calls stood p = absurd calls
 
-  pub talk_is : (old new : D) (first : State) (seen : List Place) (served : List (List Bytes)) (answers : List Answer) → IsMarked seen → (told old).stands first seen → Talks told old new served answers
-      → Said told sequence old new first (store_at told sequence old first seen) served answers
-  talk_is old new first seen [] [] marked stood talk = record {
+  pub talk_is : (old new : D) (opening : Opening) (seen : List Place) (served : List (List Bytes)) (answers : List Answer) → (told old).stands opening seen → Talks told old new served answers
+      → Said told sequence old new opening (store_at told sequence old opening seen) served answers
+  talk_is old new opening seen [] [] stood talk = record {
     nows = [];
     readings = subst (λ (d : D). TakesAll (told old).readings (told d).readings []) (sym talk) (takes_none (told old).readings);
     seen = seen;
-    marked = marked;
-    stands = subst (λ (d : D). (told d).stands first seen) (sym talk) stood;
-    dialog = (refl, ap (λ (d : D). store_at told sequence d first seen) talk);
+    stands = subst (λ (d : D). (told d).stands opening seen) (sym talk) stood;
+    dialog = (refl, ap (λ (d : D). store_at told sequence d opening seen) talk);
   }
-  talk_is old new first seen [] (answer ∷ answers) marked stood talk = absurd talk
-  talk_is old new first seen (words ∷ others) [] marked stood talk = absurd talk
-  talk_is old new first seen (words ∷ others) (answer ∷ answers) marked stood talk =
+  talk_is old new opening seen [] (answer ∷ answers) stood talk = absurd talk
+  talk_is old new opening seen (words ∷ others) [] stood talk = absurd talk
+  talk_is old new opening seen (words ∷ others) (answer ∷ answers) stood talk =
       let mid = talk.0 in
-      let one = turned old mid first seen (asked talk.1.read) answer marked stood talk.1.turn in
-      let rest = talk_is mid new first one.seen others answers one.marked one.stands talk.2 in
+      let one = turned old mid opening seen (asked talk.1.read) answer (of_calls talk.1.read) stood talk.1.turn in
+      let rest = talk_is mid new opening one.seen others answers one.stands talk.2 in
       record {
         nows = one.nows ++ rest.nows;
         readings = takes_then (told old).readings (told mid).readings (told new).readings one.nows rest.nows one.readings rest.readings;
         seen = rest.seen;
-        marked = rest.marked;
         stands = rest.stands;
-        dialog = (store_at told sequence mid first one.seen, one.nows, rest.nows, refl, record { read = talk.1.read; is = talk.1.is; turn = one.turn }, rest.dialog);
+        dialog = (store_at told sequence mid opening one.seen, one.nows, rest.nows, refl, record { read = talk.1.read; is = talk.1.is; turn = one.turn }, rest.dialog);
       }
 
 -- ---- the count of faults does not fall
 
-asks_later : {D : Type 0} (told : D → DeskState) (old new : D) (c : Command) (answer : Answer) → Asks told old new c answer → (told old).faults ≤ (told new).faults
+asks_later : {D : Type 0} (told : D → DeskState) (old new : D) (c : ask.Ask) (answer : Answer) → Asks told old new c answer → (told old).faults ≤ (told new).faults
 asks_later told old new c answer p = let same = p.reading.faults in let more = p.call.later in omega (arith, same, more)
 
 turn_later : {D : Type 0} (told : D → DeskState) (old new : D) (a : Asked) (answer : Answer) → TurnAt told old new a answer → (told old).faults ≤ (told new).faults

@@ -1,5 +1,5 @@
 -- A desk of one caller, who is alone: what it has seen is the whole history.
-use Rattle.std.specs.Prelude.{◌≡◌, ◌+◌, ℕ, false, List, [], ◌∷◌, ◌++◌, Some, Result, Ok, Err, refl}
+use Rattle.std.specs.Prelude.{◌≡◌, ◌+◌, ◌==◌, ℕ, Bool, true, false, if◌then◌else◌, List, [], ◌∷◌, ◌++◌, Option, Some, None, Result, Ok, Err, refl}
 use Rattle.std.proofs.Common.{sym, ap, subst, ◌∙◌, inl, arith}
 use Rattle.std.proofs.lemmas.List.{append-nil}
 use Rattle.redis_model.specs.declared.command.Command.{Command}
@@ -10,11 +10,13 @@ use Rattle.redis_model.specs.declared.history.Step.{Step}
 use Rattle.redis_model.specs.declared.history.Step.TheVariants.{Call}
 use Rattle.redis_model.specs.declared.history.Place.{Place}
 use Rattle.redis_model.specs.declared.history.Note.{Note}
-use Rattle.redis_model.specs.declared.history.Note.TheVariants.{Bare, Batch}
+use Rattle.redis_model.specs.declared.history.Note.TheVariants.{Bare, Appended}
 use Rattle.redis_model.specs.Machine.{State, run, step}
 use Rattle.redis_model.specs.Legal.{IsLegal, IsLegalFrom, MayStep, Jobs, no_jobs, jobs_after}
-use Rattle.redis_model.specs.Desk.{steps_of, state_at, has_pin, IsSeen, Follows, Leaves}
-use Rattle.log_store.specs.Playing.{batches_of}
+use Rattle.redis_model.specs.Asks as ask
+use Rattle.redis_model.specs.Desk.{has_pin, IsSeen, Follows, Leaves}
+use Rattle.redis_model.specs.Places.{steps_of, state_at, sequences, appended_by, put_before, GoUp}
+use Rattle.log_store.specs.Playing.{batches, batches_of}
 
 -- each entry is a call of the caller 0
 abbrev pub IsOwnCall : Step → Type 0
@@ -82,7 +84,7 @@ alone_on now c note first seen alone free =
     may_call : (s : State) → s.pins ≡ [] → MayStep s no_jobs (Call now 0 c)
     may_call s none = rw none refl
 
--- ---- the sequence of the last batch
+-- ---- batches
 
 -- how many batches an entry appended that found this state
 abbrev pub batches_at : State → Step → ℕ
@@ -94,27 +96,39 @@ abbrev pub batches_in : State → List Place → ℕ
 batches_in s [] = 0
 batches_in s (p ∷ ps) = batches_at s p.what + batches_in (step s p.what).1 ps
 
--- the sequence behind these places, where it was noted in front of them
-abbrev pub IsBehind : Note → State → List Place → ℕ → Type 0
-IsBehind Bare s ps n = Unit {0}
-IsBehind (Batch first) s ps n = n ≡ first + batches_in s ps
-
--- Where the first of these places notes a sequence, each batch behind it has the next one, and this is the last.
-abbrev pub HasSequence : State → List Place → ℕ → Type 0
-HasSequence first [] n = Unit {0}
-HasSequence first (p ∷ ps) n = IsBehind p.note (step first p.what).1 ps n
-
 pub batches_in-append : (s : State) (ps qs : List Place) → batches_in s (ps ++ qs) ≡ batches_in s ps + batches_in (state_at s ps) qs
 batches_in-append s [] qs = omega arith
 batches_in-append s (p ∷ ps) qs = let rest = batches_in-append (step s p.what).1 ps qs in omega (arith, rest)
 
-pub sequence_on : (first : State) (seen : List Place) (p : Place) (n : ℕ) → p.note ≡ Bare → HasSequence first seen n → HasSequence first (seen ++ p ∷ []) (n + batches_at (state_at first seen) p.what)
-sequence_on first [] p n bare has = rw bare tt
-sequence_on first (q ∷ ps) p n bare has = by_note q.note has
-  where
-    by_note : (note : Note) → IsBehind note (step first q.what).1 ps n → IsBehind note (step first q.what).1 (ps ++ p ∷ []) (n + batches_at (state_at (step first q.what).1 ps) p.what)
-    by_note Bare is = tt
-    by_note (Batch start) is = let all = batches_in-append (step first q.what).1 ps (p ∷ []) in omega (arith, is, all)
+-- What is noted of a call that planned a body of so many bytes: the sequence of its batch, which is the next one, where
+-- there was something to write.
+abbrev pub note_of : ℕ → ℕ → Note
+note_of sequence planned = if planned == 0 then Bare else Appended (sequence + 1)
+
+put_before-append : (o : Option ℕ) (ms ns : List ℕ) → put_before o (ms ++ ns) ≡ put_before o ms ++ ns
+put_before-append None ms ns = refl
+put_before-append (Some n) ms ns = refl
+
+sequences-append : (ps qs : List Place) → sequences (ps ++ qs) ≡ sequences ps ++ sequences qs
+sequences-append [] qs = refl
+sequences-append (p ∷ ps) qs = ap (put_before (appended_by p.what p.note)) (sequences-append ps qs) ∙ put_before-append (appended_by p.what p.note) (sequences ps) (sequences qs)
+
+-- sequences that go on where others end
+go_up_then : (first mid last : ℕ) (ms ns : List ℕ) → GoUp first ms mid → GoUp mid ns last → GoUp first (ms ++ ns) last
+go_up_then first mid last [] ns p q = subst (λ (n : ℕ). GoUp n ns last) p q
+go_up_then first mid last (m ∷ ms) ns p q = (p.0, go_up_then m mid last ms ns p.1 q)
+
+noted_by : (now : ℕ) (c : Command) (n : ℕ) (none : Bool) → GoUp n (sequences (record { what = Call now 0 c; note = if none then Bare else Appended (n + 1) } ∷ [])) (n + (if none then 0 else 1))
+noted_by now c n true = omega arith
+noted_by now c n false = (refl, refl)
+
+-- each batch has the next sequence, and this is the last
+noted_on : (now : ℕ) (c : Command) (first n planned : ℕ) (seen : List Place) → GoUp first (sequences seen) n
+    → GoUp first (sequences (seen ++ record { what = Call now 0 c; note = note_of n planned } ∷ [])) (n + batches planned)
+noted_on now c first n planned seen has =
+    let own : Place = record { what = Call now 0 c; note = note_of n planned } in
+    subst (λ (ms : List ℕ). GoUp first ms (n + batches planned)) (sym (sequences-append seen (own ∷ [])))
+    (go_up_then first n (n + batches planned) (sequences seen) (sequences (own ∷ [])) has (noted_by now c n (planned == 0)))
 
 -- ---- what the desk's calls leave
 
@@ -123,24 +137,26 @@ abbrev pub batches_by : State → ℕ → Command → Result Reply DeskFault →
 batches_by s now c (Ok reply) = batches_of s now (One c)
 batches_by s now c (Err fault) = 0
 
--- the history goes on by a call, after which this is the machine's state
-pub record GoesOn (first : State) (seen : List Place) (now : ℕ) (c : Command) (result : Result Reply DeskFault) (s : State) : Type 0 where
+-- The history goes on by a call, after which this is the machine's state, and this the sequence of the last batch that is
+-- noted.
+pub record GoesOn (first : State) (seen : List Place) (now : ℕ) (c : Command) (result : Result Reply DeskFault) (s : State) (begun last : ℕ) : Type 0 where
   pub after : List Place
   pub alone : IsAlone first after
   pub state : state_at first after ≡ s
   pub follows : Follows 0 seen after
-  pub leaves : Leaves 0 first seen now c result after
-  pub sequence : (n : ℕ) → HasSequence first seen n → HasSequence first after (n + batches_by (state_at first seen) now c result)
+  pub leaves : Leaves 0 first seen now (ask.Call c) result after
+  pub batches : batches_in first after ≡ batches_in first seen + batches_by (state_at first seen) now c result
+  pub noted : GoUp begun (sequences after) last
 
 -- it answered as the machine does
-pub goes_on : (reply : Reply) (now : ℕ) (c : Command) (first : State) (seen : List Place) → IsAlone first seen → (step (state_at first seen) (Call now 0 c)).0 ≡ Some reply
-    → (step (state_at first seen) (Call now 0 c)).1.pins ≡ [] → GoesOn first seen now c (Ok reply) (step (state_at first seen) (Call now 0 c)).1
-goes_on reply now c first seen alone answer free =
-    let own : Place = record { what = Call now 0 c; note = Bare } in
+pub goes_on : (reply : Reply) (now : ℕ) (c : Command) (planned begun n : ℕ) (first : State) (seen : List Place) → IsAlone first seen → GoUp begun (sequences seen) n → (step (state_at first seen) (Call now 0 c)).0 ≡ Some reply
+    → (step (state_at first seen) (Call now 0 c)).1.pins ≡ [] → GoesOn first seen now c (Ok reply) (step (state_at first seen) (Call now 0 c)).1 begun (n + batches planned)
+goes_on reply now c planned begun n first seen alone noted answer free =
+    let own : Place = record { what = Call now 0 c; note = note_of n planned } in
     let known = knows_alone first seen alone in
     record {
       after = seen ++ own ∷ [];
-      alone = alone_on now c Bare first seen alone free;
+      alone = alone_on now c (note_of n planned) first seen alone free;
       state = state_more first seen own;
       follows = record { added = own ∷ []; grown = refl; ended = tt };
       leaves = record {
@@ -154,16 +170,18 @@ goes_on reply now c first seen alone answer free =
         once = refl;
         answered = ap (λ (xs : List Place). (step (state_at first xs) (Call now 0 c)).0) (append-nil seen) ∙ answer;
       };
-      sequence = λ n has. sequence_on first seen own n refl has;
+      batches = (let more = batches_in-append first seen (own ∷ []) in omega (arith, more));
+      noted = noted_on now c begun n planned seen noted;
     }
 
 -- it failed, and is as it was
-pub stays_so : (now : ℕ) (c : Command) (fault : DeskFault) (first : State) (seen : List Place) → IsAlone first seen → GoesOn first seen now c (Err fault) (state_at first seen)
-stays_so now c fault first seen alone = record {
+pub stays_so : (now : ℕ) (c : Command) (fault : DeskFault) (begun n : ℕ) (first : State) (seen : List Place) → IsAlone first seen → GoUp begun (sequences seen) n → GoesOn first seen now c (Err fault) (state_at first seen) begun n
+stays_so now c fault begun n first seen alone noted = record {
   after = seen;
   alone = alone;
   state = refl;
   follows = record { added = []; grown = sym (append-nil seen); ended = tt };
   leaves = record { added = []; grown = sym (append-nil seen); own = tt };
-  sequence = λ n has. (let same : n ≡ n + 0 = omega arith in subst (HasSequence first seen) same has);
+  batches = omega arith;
+  noted = noted;
 }

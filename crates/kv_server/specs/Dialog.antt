@@ -11,6 +11,7 @@ use Rattle.redis_model.specs.declared.history.Step.TheVariants.{Call}
 use Rattle.redis_model.specs.declared.reply.Reply.{Reply}
 use Rattle.redis_model.specs.About.{writes}
 use Rattle.redis_model.specs.Apply.{due}
+use Rattle.redis_model.specs.Asks as ask
 use Rattle.redis_model.specs.Desk.{last_sequence, longest_body}
 use Rattle.redis_model.specs.Machine.{State, step, moment_at, at_moment}
 use Rattle.lives_model.specs.Rows.{Rows}
@@ -61,10 +62,11 @@ Answers old now c (answer.Reply reply) new = (step old.state (Call now 0 c) ≡ 
 Answers old now c (answer.Fault fault) new = IsWithheld old.state now c new.state × (new.sequence ≡ old.sequence) × HasFault old new now c fault
 Answers old now c _ new = ⊥
 
--- What is asked for has this answer, at these readings of the clock: one where the machine is asked. What asks nothing of
--- it has an answer of its own, and leaves the store alone.
+-- What is asked for has this answer, at these readings of the clock: one where the machine is asked, for one command. What
+-- asks nothing of it has an answer of its own, and leaves the store alone.
 abbrev pub TurnBy : StoreState → Asked → List ℕ → Answer → StoreState → Type 0
-TurnBy old (ToDesk c) nows answer new = (now : ℕ) × (nows ≡ now ∷ []) × Answers old now (due now c) answer new × (old.faults ≤ new.faults)
+TurnBy old (ToDesk (ask.Call c)) nows answer new = (now : ℕ) × (nows ≡ now ∷ []) × Answers old now (due now c) answer new × (old.faults ≤ new.faults)
+TurnBy old (ToDesk _) nows answer new = ⊥
 TurnBy old (Own said) nows answer new = (answer ≡ said) × (nows ≡ []) × (new ≡ old)
 
 -- One request has this answer, as what its words are read into; memory may run out for that.

@@ -26,6 +26,7 @@ use Rattle.lives_model.specs.Means.{Means}
 use Rattle.log_store.specs.Recover.{Recovered}
 use Rattle.log_store.specs.Keeping.{StoreState as KeptState, IsKept, StandsFor, log_file, IsStart, IsDamagedLog, FailsToOpen, ComesToKeys, Keeps, KeepsOrMore}
 use Rattle.kv_server.specs.Dialog.{StoreState, Dialog}
+use Rattle.kv_server.specs.Outside.{Outside}
 
 abbrev pub names_script : Option Words → Bool
 names_script (Some (words.Script folder)) = true
@@ -45,16 +46,17 @@ status outcome.Spent = 8
 
 -- ---- a session
 
--- A session with a client: the bytes that it took, the requests in them that it answered, each once and in order, and what
--- it wrote: the answers, and behind them the line of a fault of the wire.
-pub record Ran (o : Outcome) (left left' held held' : Option (List ℕ)) (ended ended' : Bool) : Type 0 where
+-- A session with a client: the bytes that it took, at most 2^40, the requests in them that it answered, each once and in
+-- order, and what it wrote: the answers, and behind them the line of a fault of the wire.
+pub record Ran (o : Outcome) (old new : Outside) : Type 0 where
   pub taken : Bytes
   pub served : List (List Bytes)
   pub answers : List Answer
   pub line : Bytes
-  pub took : Consumes left left' taken
-  pub ends : EndsAs o taken served line left' ended ended'
-  pub wrote : Writing o held held' (text answers ++ line)
+  pub took : Consumes old.left new.left taken
+  pub limit : length taken ≤ 2 ^ 40
+  pub ends : EndsAs o taken served line new.left old.ended new.ended
+  pub wrote : Writing o old.held new.held (text answers ++ line)
 
 -- These requests have these answers of the machine, at these readings of the clock, from one state of the store to another.
 pub record Talked (old new : StoreState) (served : List (List Bytes)) (answers : List Answer) (ahead ahead' : Option (List ℕ)) : Type 0 where
@@ -75,9 +77,9 @@ pub record LeadsOn (old new : KeptState) (faults faults' : ℕ) (disk : Disk) (s
   pub talked : Talked (store_of s old faults) (store_of state new faults') served answers ahead ahead'
 
 -- A session was served over a store.
-pub record IsSession (o : Outcome) (old new : KeptState) (faults faults' : ℕ) (disk : Disk) (ahead ahead' left left' held held' : Option (List ℕ)) (ended ended' : Bool) : Type 0 where
-  pub ran : Ran o left left' held held' ended ended'
-  pub leads : (s : State) → StandsFor old s → LeadsOn old new faults faults' disk s ran.served ran.answers ahead ahead'
+pub record IsSession (o : Outcome) (kept kept' : KeptState) (old new : Outside) : Type 0 where
+  pub ran : Ran o old new
+  pub leads : (s : State) → StandsFor kept s → LeadsOn kept kept' old.files new.files new.disk s ran.served ran.answers old.readings new.readings
 
 -- ---- what is written, over an input that is told
 
@@ -170,12 +172,12 @@ Tells (fault.Damaged file place) held held' before now = IsWritten (damage_line 
 Tells _ held held' before now = held' ≡ held
 
 -- The store was not opened, and no input was taken.
-pub record IsRefused (n : ℕ) (disk : Disk) (files files' : ℕ) (left left' held held' : Option (List ℕ)) (sink sink' : ℕ) : Type 0 where
+pub record IsRefused (n : ℕ) (old new : Outside) : Type 0 where
   pub fault : StoreFault
   pub status : n ≡ opening_status fault
-  pub cause : FailsToOpen disk files files' fault
-  pub wrote : Tells fault held held' sink sink'
-  pub untaken : left' ≡ left
+  pub cause : FailsToOpen old.disk old.files new.files fault
+  pub wrote : Tells fault old.held new.held old.sink new.sink
+  pub untaken : new.left ≡ old.left
 
 -- the store that a log was opened as, whose rows mean these keys, where calls to the files have failed so often
 abbrev pub store_from : Recovered → RedisMap → ℕ → StoreState
@@ -201,24 +203,23 @@ pub record LeavesKeysOrMore (disk : Disk) (s : State) : Type 0 where
 
 -- From the store that was opened, the answers are the machine's. With status 0 the log comes to the keys at the end, at any
 -- crash from then on; with another one it may come to them after one batch more.
-pub record Went (n : ℕ) (disk' : Disk) (files' : ℕ) (served : List (List Bytes)) (answers : List Answer) (ahead ahead' : Option (List ℕ)) (first : StoreState) : Type 0 where
+pub record Went (n : ℕ) (new : Outside) (served : List (List Bytes)) (answers : List Answer) (ahead : Option (List ℕ)) (first : StoreState) : Type 0 where
   pub last : StoreState
-  pub until : last.faults ≤ files'
-  pub talked : Talked first last served answers ahead ahead'
-  pub kept : n ≡ 0 → LeavesKeys disk' last.state
-  pub kept_or_more : LeavesKeysOrMore disk' last.state
+  pub until : last.faults ≤ new.files
+  pub talked : Talked first last served answers ahead new.readings
+  pub kept : n ≡ 0 → LeavesKeys new.disk last.state
+  pub kept_or_more : LeavesKeysOrMore new.disk last.state
 
 -- A session was served.
-pub record IsServed (n : ℕ) (disk disk' : Disk) (files files' : ℕ) (ahead ahead' left left' held held' : Option (List ℕ)) (ended ended' : Bool) (source source' sink sink' : ℕ) : Type 0 where
+pub record IsServed (n : ℕ) (old new : Outside) : Type 0 where
   pub outcome : Outcome
-  pub ran : Ran outcome left left' held held' ended ended'
-  pub caused : IsCaused outcome source source' sink sink'
-  pub ends : EndsWith outcome n files files'
-  pub opened : Opened disk files (Went n disk' files' ran.served ran.answers ahead ahead')
+  pub ran : Ran outcome old new
+  pub caused : IsCaused outcome old.source new.source old.sink new.sink
+  pub ends : EndsWith outcome n old.files new.files
+  pub opened : Opened old.disk old.files (Went n new ran.served ran.answers old.readings)
 
-abbrev pub IsRun : ℕ → Disk → Disk → ℕ → ℕ → Option (List ℕ) → Option (List ℕ) → Option (List ℕ) → Option (List ℕ) → Option (List ℕ) → Option (List ℕ) → Bool → Bool → ℕ → ℕ → ℕ → ℕ → Type 0
-IsRun n disk disk' files files' ahead ahead' left left' held held' ended ended' source source' sink sink' =
-    IsRefused n disk files files' left left' held held' sink sink' ⊎ IsServed n disk disk' files files' ahead ahead' left left' held held' ended ended' source source' sink sink'
+abbrev pub IsRun : ℕ → Outside → Outside → Type 0
+IsRun n old new = IsRefused n old new ⊎ IsServed n old new
 
 -- what a good run says: the answers to the whole input, each fault with its cause, from the keys that the log came to, to
 -- those that it comes to

@@ -1,41 +1,62 @@
 -- What the desk of a store that is kept by a log stands for.
-use Rattle.std.specs.Prelude.{◌≡◌, ◌≤◌, ℕ, false, List, Option}
+use Rattle.std.specs.Prelude.{◌≡◌, ◌≤◌, ◌+◌, ℕ, false, List, Option, None, IfSome}
 use Rattle.kv_outside.specs.Disk.{Disk}
-use Rattle.redis_model.specs.declared.command.Command.{Command}
-use Rattle.redis_model.specs.declared.command.Cmds.TheVariants.{One}
+use Rattle.redis_model.specs.declared.desk.DeskFault.{DeskFault}
 use Rattle.redis_model.specs.declared.history.Place.{Place}
-use Rattle.redis_model.specs.Desk.{state_at, last_sequence}
+use Rattle.redis_model.specs.Asks.{Ask, commands_of}
+use Rattle.redis_model.specs.Desk.{last_sequence}
 use Rattle.redis_model.specs.DeskState.{DeskState}
 use Rattle.redis_model.specs.Machine.{State}
+use Rattle.redis_model.specs.Places.{Opening, state_at, sequences, GoUp}
 use Rattle.log_store.specs.Keeping.{StoreState, IsKept, StandsFor}
 use Rattle.log_store.specs.Playing.{IsSized}
-use Rattle.kv_server.specs.Alone.{IsAlone, HasSequence}
+use Rattle.kv_server.specs.Alone.{IsAlone, batches_in}
 
--- A history of its one caller leads to the state that the store stands for, which the log on the disk keeps.
-pub record Stands (kept : StoreState) (disk : Disk) (first : State) (seen : List Place) : Type 0 where
-  pub alone : IsAlone first seen
-  pub store : StandsFor kept (state_at first seen)
+-- What a desk works on, the store, the disk with the count of its faults, and the clock with the readings that are ahead, and
+-- of its last calls: the reading, the fault, the sequence of the last batch that was met, and the length of the body that
+-- was planned.
+pub record DeskParts : Type 1 where
+  pub kept : StoreState
+  pub disk : Disk
+  pub faults : ℕ
+  pub readings : Option (List ℕ)
+  pub last : Option ℕ
+  pub fault : Option DeskFault
+  pub sequence : ℕ
+  pub body : ℕ
+
+abbrev pub parts : StoreState → Disk → ℕ → Option (List ℕ) → Option ℕ → Option DeskFault → ℕ → ℕ → DeskParts
+parts kept disk faults readings last fault sequence body =
+    record { kept = kept; disk = disk; faults = faults; readings = readings; last = last; fault = fault; sequence = sequence; body = body }
+
+-- A history of its one caller leads to the state that the store stands for, which the log on the disk keeps. The store has
+-- appended a batch for each call that touches a key, and each is noted with its sequence.
+pub record Stands (kept : StoreState) (disk : Disk) (opening : Opening) (seen : List Place) : Type 0 where
+  pub alone : IsAlone opening.state seen
+  pub store : StandsFor kept (state_at opening.state seen)
   pub keeps : IsKept disk kept
-  pub sequence : HasSequence first seen kept.sequence
+  pub batches : kept.sequence ≡ opening.last + batches_in opening.state seen
+  pub noted : GoUp opening.last (sequences seen) kept.sequence
   pub limit : kept.sequence ≤ last_sequence
 
--- what the last call met and planned, where it failed: the sequence of the last batch, and a body for this command on the
--- rows that are kept
-abbrev pub Planned : StoreState → ℕ → ℕ → ℕ → Command → Type 0
-Planned kept met body now c = (met ≡ kept.sequence) × ((s : State) → StandsFor kept s → IsSized kept now s (One c) body)
+-- What the last call met and planned, where it failed: the sequence of the last batch, and a body for these commands on the
+-- rows that are kept.
+abbrev pub Planned : StoreState → ℕ → ℕ → ℕ → Ask → Type 0
+Planned kept sequence body now ask =
+    (sequence ≡ kept.sequence) × ((s : State) → StandsFor kept s → IfSome (commands_of ask) (λ ds. IsSized kept now s ds body))
 
--- What the desk tells, by what is kept, the disk and how often a call to it has failed, the readings of the clock that are
--- ahead and the last one, and the sequence and the body of the last call.
-abbrev pub told_of : StoreState → Disk → ℕ → Option (List ℕ) → Option ℕ → ℕ → ℕ → DeskState
-told_of kept disk faults readings last met body = record {
-  stands = λ first seen. Stands kept disk first seen;
+abbrev pub told_of : DeskParts → DeskState
+told_of d = record {
+  stands = Stands d.kept d.disk;
   number = 0;
   pinned = false;
-  readings = readings;
-  last = last;
-  faults = faults;
+  readings = d.readings;
+  last = d.last;
+  faults = d.faults;
+  fault = d.fault;
   off = λ file place. ⊥;
-  sequence = met;
-  body = body;
-  planned = Planned kept met body;
+  sequence = d.sequence;
+  body = d.body;
+  planned = Planned d.kept d.sequence d.body;
+  met = None;
 }

@@ -4,6 +4,7 @@ ghost use Rattle.kv_outside.specs.Disk.{Leaves};
 ghost use Rattle.session.specs.Session.{IsCaused};
 ghost use Rattle.redis_model.specs.Machine.{State};
 ghost use Rattle.log_store.specs.Keeping.{ComesToKeys, IsKept, Keeps, KeepsOrMore, StandsFor, log_file};
+ghost use Rattle.kv_server.specs.Outside.{outside};
 ghost use Rattle.kv_server.specs.Script.{is_script as is_script_line, status, opening_status, unclosed_status, EndsWith, Tells, IsSession, IsRun, IsGood, IsFaultTold, IsFront, IsDamageTold, IsWhole, Opened};
 
 use crate::desk::LogDesk;
@@ -47,8 +48,15 @@ pub(crate) fn serve<'a, S: Source, K: Sink, P: Keeper<F>, F: Files, C: Clock>(
     clock: &'a mut C,
 ) -> Outcome
     ensures session { IsKept (F.disk files.old) (P.kept kept.old)
-        → IsSession result (P.kept kept.old) (P.kept kept.new) (F.faults files.old) (F.faults files.new) (F.disk files.new) (C.readings clock.old) (C.readings clock.new) (S.left source.old) (S.left source.new) (K.held sink.old) (K.held sink.new) (S.ended source.old) (S.ended source.new) }
-    ensures caused { IsCaused result (S.faults source.old) (S.faults source.new) (K.faults sink.old) (K.faults sink.new) }
+        → IsSession result (P.kept kept.old) (P.kept kept.new)
+        (outside (F.disk files.old) (F.faults files.old) (C.readings clock.old)
+            (S.left source.old) (S.ended source.old) (S.faults source.old)
+            (K.held sink.old) (K.faults sink.old))
+        (outside (F.disk files.new) (F.faults files.new) (C.readings clock.new)
+            (S.left source.new) (S.ended source.new) (S.faults source.new)
+            (K.held sink.new) (K.faults sink.new)) }
+    ensures caused { IsCaused result
+        (S.faults source.old) (S.faults source.new) (K.faults sink.old) (K.faults sink.new) }
     ensures later { F.faults files.old ≤ F.faults files.new }
 {
     let mut desk = LogDesk::new(alloc, kept, files, clock);
@@ -85,7 +93,8 @@ fn finish<F: Files>(store: &mut LogStore<F>, files: &mut F, outcome: Outcome) ->
     ensures kept { result ≡ 0 → IsKept (F.disk files.old) store.old → (s : State) → StandsFor store.old s
         → Leaves (F.disk files.new) log_file (ComesToKeys s.floor s.keys) }
     ensures kept_or_more { IsKept (F.disk files.old) store.old
-        → Keeps (F.disk files.new) store.old.rows store.old.written ⊎ KeepsOrMore (F.disk files.new) store.old.rows store.old.written store.old.sequence }
+        → Keeps (F.disk files.new) store.old.rows store.old.written
+        ⊎ KeepsOrMore (F.disk files.new) store.old.rows store.old.written store.old.sequence }
 {
     match store.close(files) {
         Ok(()) => status_of(outcome),
@@ -101,7 +110,13 @@ fn run<S: Source, K: Sink, F: Files, C: Clock>(
     files: &mut F,
     clock: &mut C,
 ) -> u8
-    ensures { IsRun result (F.disk files.old) (F.disk files.new) (F.faults files.old) (F.faults files.new) (C.readings clock.old) (C.readings clock.new) (S.left source.old) (S.left source.new) (K.held sink.old) (K.held sink.new) (S.ended source.old) (S.ended source.new) (S.faults source.old) (S.faults source.new) (K.faults sink.old) (K.faults sink.new) }
+    ensures { IsRun result
+        (outside (F.disk files.old) (F.faults files.old) (C.readings clock.old)
+            (S.left source.old) (S.ended source.old) (S.faults source.old)
+            (K.held sink.old) (K.faults sink.old))
+        (outside (F.disk files.new) (F.faults files.new) (C.readings clock.new)
+            (S.left source.new) (S.ended source.new) (S.faults source.new)
+            (K.held sink.new) (K.faults sink.new)) }
 {
     let mut store = match LogStore::open(alloc, files) {
         Ok(store) => store,
@@ -114,11 +129,11 @@ fn run<S: Source, K: Sink, F: Files, C: Clock>(
 /// `kvr script`: one session from the source to the sink, over the store that the log `wal-1` keeps. A SET is answered
 /// when it is on the disk.
 ///
-/// The words are `script --dir D` or `script --dir=D`, by the grammar of command lines. The status is 0 where the client quit or the input was read to its end between requests, 1 for other words, 2 where a call to the
-/// files failed at the opening or the closing, 3 where the log is damaged, which a line tells with the file and the
-/// place, 4 where there was no memory for the store or a request, 5 and 6 where the source or the sink failed, 7 where
-/// the input is off the wire's grammar or ends inside a request, which a line tells with the place, and 8 where 2^40
-/// bytes were taken. Nothing behind a `QUIT` is answered. Commands are answered as the Redis command reference says; the
+/// The words are `script --dir D` or `script --dir=D`, by the grammar of command lines. The status is 0 where the client
+/// quit or the input was read to its end between requests, 1 for other words, 2 where a call to the files failed at the
+/// opening or the closing, 3 where the log is damaged, which a line tells with the file and the place, 4 where there was
+/// no memory for the store or a request, 5 and 6 where the source or the sink failed, 7 where the input is off the
+/// wire's grammar or ends inside a request, which a line tells with the place, and 8 where 2^40 bytes were taken. Nothing behind a `QUIT` is answered. Commands are answered as the Redis command reference says; the
 /// order of refusals and the statuses are this server's own.
 pub fn top_script<S: Source, K: Sink, F: Files, C: Clock>(
     alloc: Global,
@@ -129,27 +144,42 @@ pub fn top_script<S: Source, K: Sink, F: Files, C: Clock>(
     clock: &mut C,
 ) -> u8
     ensures usage { (result ≡ 1) ↔ (is_script_line (map (λ word. string_bytes word) words.now) ≡ false) }
-    ensures untouched { result ≡ 1 → (source.new ≡ source.old) × (sink.new ≡ sink.old) × (files.new ≡ files.old) × (clock.new ≡ clock.old) }
+    ensures untouched { result ≡ 1 → (source.new ≡ source.old) × (sink.new ≡ sink.old)
+        × (files.new ≡ files.old) × (clock.new ≡ clock.old) }
 
     // How it went: the store was not opened, or a session was served from the keys that the log came to.
-    ensures run { result ≢ 1
-        → IsRun result (F.disk files.old) (F.disk files.new) (F.faults files.old) (F.faults files.new) (C.readings clock.old) (C.readings clock.new) (S.left source.old) (S.left source.new) (K.held sink.old) (K.held sink.new) (S.ended source.old) (S.ended source.new) (S.faults source.old) (S.faults source.new) (K.faults sink.old) (K.faults sink.new) }
+    ensures run { result ≢ 1 → IsRun result
+        (outside (F.disk files.old) (F.faults files.old) (C.readings clock.old)
+            (S.left source.old) (S.ended source.old) (S.faults source.old)
+            (K.held sink.old) (K.faults sink.old))
+        (outside (F.disk files.new) (F.faults files.new) (C.readings clock.new)
+            (S.left source.new) (S.ended source.new) (S.faults source.new)
+            (K.held sink.new) (K.faults sink.new)) }
 
     // With status 0 the answers to all requests of a told input, or to those up to the first QUIT, were written and
     // nothing else, from the keys that the log came to, and the log comes to the keys at the end, whatever crash comes
-    // afterwards. An answer is a fault only where a call to the files failed in it, where it writes and no sequence is
-    // left, or for want of memory.
-    ensures good { result ≡ 0 → Opened (F.disk files.old) (F.faults files.old) (IsGood (F.disk files.new) (F.faults files.new) (S.left source.old) (C.readings clock.old) (K.held sink.old) (K.held sink.new)) }
+    // afterwards. An answer is a fault only where a call to the files failed in it, where its command touches a key and
+    // no sequence is left, where the batch that carries it out is longer than a record, or for want of memory.
+    ensures good { result ≡ 0 → Opened (F.disk files.old) (F.faults files.old)
+        (IsGood (F.disk files.new) (F.faults files.new)
+            (S.left source.old) (C.readings clock.old) (K.held sink.old) (K.held sink.new)) }
     // With status 7 a told input is off the grammar, or ends inside a request, without a QUIT before. The answers to all
     // requests before were written, and behind them `-ERR Protocol error: KIND at PLACE`, as the grammar tells it.
-    ensures protocol { result ≡ 7 → Opened (F.disk files.old) (F.faults files.old) (IsFaultTold (F.disk files.new) (F.faults files.new) (S.left source.old) (C.readings clock.old) (K.held sink.old) (K.held sink.new)) }
+    ensures protocol { result ≡ 7 → Opened (F.disk files.old) (F.faults files.old)
+        (IsFaultTold (F.disk files.new) (F.faults files.new)
+            (S.left source.old) (C.readings clock.old) (K.held sink.old) (K.held sink.new)) }
     // With status 6 the sink has a front of such answers, and of such a line.
-    ensures front { result ≡ 6 → Opened (F.disk files.old) (F.faults files.old) (IsFront (F.disk files.new) (F.faults files.new) (S.left source.old) (C.readings clock.old) (K.held sink.old) (K.held sink.new)) }
-    ensures damaged { result ≡ 3 → IsDamageTold (F.disk files.old) (K.held sink.old) (K.held sink.new) (K.faults sink.old) (K.faults sink.new) }
+    ensures front { result ≡ 6 → Opened (F.disk files.old) (F.faults files.old)
+        (IsFront (F.disk files.new) (F.faults files.new)
+            (S.left source.old) (C.readings clock.old) (K.held sink.old) (K.held sink.new)) }
+    ensures damaged { result ≡ 3 → IsDamageTold (F.disk files.old)
+        (K.held sink.old) (K.held sink.new) (K.faults sink.old) (K.faults sink.new) }
 
     // An input that ends between requests, or holds a QUIT, is answered, unless a call failed, the log is damaged or memory ran out.
     ensures whole { (result ≢ 1) → IsWhole (S.left source.old)
-        → ¬ Rose (F.faults files.old) (F.faults files.new) → ¬ Rose (S.faults source.old) (S.faults source.new) → ¬ Rose (K.faults sink.old) (K.faults sink.new)
+        → ¬ Rose (F.faults files.old) (F.faults files.new)
+        → ¬ Rose (S.faults source.old) (S.faults source.new)
+        → ¬ Rose (K.faults sink.old) (K.faults sink.new)
         → (result ≡ 0) ⊎ ((result ≡ 3) ⊎ (result ≡ 4)) }
     ensures files_fault { result ≡ 2 → Rose (F.faults files.old) (F.faults files.new) }
     ensures input_fault { result ≡ 5 → Rose (S.faults source.old) (S.faults source.new) }

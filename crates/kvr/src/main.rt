@@ -1,73 +1,8 @@
-//! `kvr`: the server's programs on the real input, output, clock and files.
-//!
-//! `kvr script --dir D` answers the requests on its standard input on its standard output. The status that it ends with
-//! is that of `kv_server::top_script`, and 1 also where a word is no UTF-8.
+//! `kvr`: the server's programs.
 #![tactic(auto)]
 
-ghost use Rattle.std.specs.Prelude.{◌≡◌, ◌≢◌};
-ghost use Rattle.std.specs.declared.io.ErrorKind.TheVariants.{OutOfMemory};
-
-use kv_base::PathText;
-use kv_conf::{Asked, judge};
-use kv_real::{RealFiles, StdIn, StdOut, SystemClock};
-use kv_server::top_script;
 use std::process::ExitCode;
-use std::{env, io};
-
-/// The status of words that name no program.
-const USAGE: u8 = 1;
-
-/// The status where there is no memory for the words.
-const NO_MEMORY: u8 = 4;
-
-/// The words behind the program's name.
-fn words_of(rt: &HostRuntime) -> io::Result<Vec<String>> {
-    let mut words = Vec::new(rt.alloc());
-    for word in env::args(rt)?.skip(1) {
-        words.push(word)?;
-    }
-    Ok(words)
-}
-
-/// The status where the words cannot be had: one of them is no UTF-8, or there is no memory.
-fn status_without_words(kind: io::ErrorKind) -> u8
-    ensures memory { kind ≡ OutOfMemory → result ≡ NO_MEMORY }
-    ensures usage { kind ≢ OutOfMemory → result ≡ USAGE }
-{
-    match kind {
-        io::ErrorKind::OutOfMemory => NO_MEMORY,
-        _ => USAGE,
-    }
-}
-
-/// The folder that the words of `script` name. Other words name none, and then no file is called.
-fn folder_of(words: &[String]) -> &str {
-    match judge(words) {
-        Some(Asked::Script(folder)) => folder,
-        _ => ".",
-    }
-}
 
 fn main(rt: HostRuntime) -> ExitCode {
-    let words = match words_of(&rt) {
-        Ok(words) => words,
-        Err(error) => return ExitCode::from(status_without_words(error.kind())),
-    };
-    let folder = match PathText::new(rt.alloc(), folder_of(&words)) {
-        Ok(folder) => folder,
-        Err(_) => return ExitCode::from(NO_MEMORY),
-    };
-    let mut source = StdIn::new(rt.stdin());
-    let mut sink = StdOut::new(rt.stdout());
-    let mut clock = SystemClock::new(rt);
-    let mut files = RealFiles::new(rt.alloc(), rt, folder);
-    let status = top_script(
-        rt.alloc(),
-        &words,
-        &mut source,
-        &mut sink,
-        &mut files,
-        &mut clock,
-    );
-    ExitCode::from(status)
+    kvr_main::run(rt)
 }

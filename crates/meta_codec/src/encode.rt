@@ -8,22 +8,12 @@ ghost use Rattle.kv_base.specs.RowRefs.{meta_seen};
 ghost use Rattle.meta_codec.specs.Metas.{meta_value};
 
 use crate::meta::Meta;
+use kv_base::flags::{HASH, LIST, SET, STRING, ZSET};
 use kv_base::{Blob, Key, Kind, MAX_VALUE, MetaRef, NoMem};
 use std::alloc::Global;
 
 /// The bytes that all metadata begins with: the flags and the deadline.
 pub const HEAD_LEN: usize = 9;
-
-// The first byte of metadata is 128 and the number of the type.
-const STRING: u8 = 0x81;
-
-const HASH: u8 = 0x82;
-
-const LIST: u8 = 0x83;
-
-const SET: u8 = 0x84;
-
-const ZSET: u8 = 0x85;
 
 /// The raw key of a key's metadata: the byte `m`, the byte 0, which is the length of an empty namespace, and the key.
 #[tactic(auto, using(crate::specs::MetaKeys::meta_key_is_raw), unfolding(kv_base::specs::RawKeys::raw_text))]

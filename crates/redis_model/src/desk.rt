@@ -2,7 +2,7 @@ ghost use base.Fml.{GName};
 ghost use Rattle.std.specs.Prelude.{◌≡◌, IsTrue, List, Some};
 ghost use Rattle.redis_model.specs.Asks.{Call};
 ghost use Rattle.redis_model.specs.Built.{built};
-ghost use Rattle.redis_model.specs.Desk.{IsSeen, TakesReading, TakesCall};
+ghost use Rattle.redis_model.specs.Desk.{IsSeen, TakesReading, TakesCall, fault_of};
 ghost use Rattle.redis_model.specs.DeskState.{DeskState};
 ghost use Rattle.redis_model.specs.Limits.{IsWithin, IsDue};
 ghost use Rattle.redis_model.specs.Places.{Opening};
@@ -49,6 +49,16 @@ impl From<Failed> for DeskFault {
 
     fn from(_: Failed) -> DeskFault {
         DeskFault::IoError
+    }
+}
+
+/// The fault of an answer, if it is one.
+pub fn fault_in(answer: &Result<Reply, DeskFault>) -> Option<DeskFault>
+    ensures { result ≡ fault_of answer.now }
+{
+    match answer {
+        Ok(_) => None,
+        Err(fault) => Some(*fault),
     }
 }
 

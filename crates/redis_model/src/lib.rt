@@ -21,7 +21,7 @@ mod upkeep;
 pub use command::{
     Bound, Cmds, Command, Commands, End, Expiry, Limit, MAX_READING, Scores, When, ZAddHow,
 };
-pub use desk::{Desk, DeskFault};
+pub use desk::{Desk, DeskFault, fault_in};
 pub use history::{
     JobAsked, JobKind, JobMark, LEVELS, Mark, Marks, Note, Place, ReadView, Step, TableIds, Task,
 };

@@ -6,6 +6,7 @@ use Rattle.kv_base.specs.Map.{Bytes}
 use Rattle.redis_model.specs.declared.command.Command.{Command}
 use Rattle.redis_model.specs.declared.desk.DeskFault.{DeskFault}
 use Rattle.redis_model.specs.declared.reply.Reply.{Reply}
+use Rattle.redis_model.specs.Asks as ask
 use Rattle.redis_model.specs.Built.{built}
 use Rattle.redis_model.specs.DeskState.{DeskState}
 use Rattle.cmd_words.specs.Parsed.{parsed_as, IsParsed}
@@ -68,7 +69,7 @@ module _ {D : Type 0} (told : D → DeskState) where
   answered_on (Err fault) = refl
 
   -- and no command is answered so
-  by_command : (c : Command) (b : Bool) (old new : D) (said : Answer) → TurnBy told old new (cond b (ToDesk c) (Own answer.Unserved)) said → quits said ≡ false
+  by_command : (c : Command) (b : Bool) (old new : D) (said : Answer) → TurnBy told old new (cond b (ToDesk (ask.Call c)) (Own answer.Unserved)) said → quits said ≡ false
   by_command c true old new said p = ap quits p.says ∙ answered_on p.result
   by_command c false old new said p = ap quits p.0
 

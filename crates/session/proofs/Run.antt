@@ -103,6 +103,7 @@ module _ {D : Type 0} (told : D → DeskState) where
 pub record InRun {D : Type 0} (told : D → DeskState) (d e : D) (l l' h i : Known) (waits rest : Bytes) (total : ℕ) : Type 0 where
   pub taken : Bytes
   pub count : length taken ≡ total
+  pub within : total ≤ 2 ^ 40
   pub took : Consumes l l' taken
   pub serving : Serving told d e h i [] [] taken rest
   pub none : waits ≡ []
@@ -156,7 +157,7 @@ no_fault (c ∷ rest) = tt
 module _ {D : Type 0} (told : D → DeskState) where
   pub run_begins : (d : D) (l h : Known) (waits rest : Bytes) → waits ≡ [] → rest ≡ [] → InRun told d d l l h h waits rest 0
   run_begins d l h waits rest none e =
-      rw e (record { taken = []; count = refl; took = nothing_taken l; serving = serving_none told d h [] []; none = none; unfinished = nothing_unfinished })
+      rw e (record { taken = []; count = refl; within = omega arith; took = nothing_taken l; serving = serving_none told d h [] []; none = none; unfinished = nothing_unfinished })
 
   -- the requests of a piece were answered behind those before it
   serving_on : (d e f : D) (h i j : Known) (w taken piece rest fed behind : Bytes) → Serving told d e h i [] [] taken rest → w ≡ [] → fed ≡ rest ++ piece → Serving told e f i j w [] fed behind → Serving told d f h j [] [] (taken ++ piece) behind
@@ -170,11 +171,12 @@ module _ {D : Type 0} (told : D → DeskState) where
       }
 
   run_goes_on : (d e f : D) (l l1 l2 h i j : Known) (w w' rest fed rest' piece : Bytes) (n k g g' : ℕ) (u : Unit {0}) → InRun told d e l l1 h i w rest n → Consumes l1 l2 piece → length piece ≡ k → fed ≡ rest ++ piece
-      → Serves told e f i j w [] g g' fed rest' (Ok u) → w' ≡ [] → InRun told d f l l2 h j w' rest' (n + k)
+      → Serves told e f i j w [] g g' fed rest' (Ok u) → w' ≡ [] → n + k ≤ 2 ^ 40 → InRun told d f l l2 h j w' rest' (n + k)
   unfolding Serves
-  run_goes_on d e f l l1 l2 h i j w w' rest fed rest' piece n k g g' u p took len is q none = record {
+  run_goes_on d e f l l1 l2 h i j w w' rest fed rest' piece n k g g' u p took len is q none few = record {
     taken = p.taken ++ piece;
     count = length-append p.taken piece ∙ omega (arith, p.count);
+    within = few;
     took = taken_then l l1 l2 p.taken piece p.took took;
     serving = serving_on d e f h i j w p.taken piece rest fed rest' p.serving p.none is q.0;
     none = none;
@@ -211,7 +213,7 @@ module _ {D : Type 0} (told : D → DeskState) where
 
     parts : (o : Outcome) (line : Bytes) (j : Known) (b b' : Bool) → EndsAs o p.taken p.serving.served line l2 b b' → Writing o h j (text p.serving.answered.answers ++ line) → Session told o d e l l2 h j b b'
     unfolding Session
-    parts o line j b b' ends wrote = record { taken = p.taken; served = p.serving.served; answers = p.serving.answered.answers; line = line; took = took_all; ends = ends; talk = p.serving.answered.talk; wrote = wrote }
+    parts o line j b b' ends wrote = record { taken = p.taken; limit = omega (arith, p.count, p.within); served = p.serving.served; answers = p.serving.answered.answers; line = line; took = took_all; ends = ends; talk = p.serving.answered.talk; wrote = wrote }
 
     run_ends : (o : Outcome) (fed : Bytes) (j : Known) (f g : ℕ) (b b' : Bool) → fed ≡ rest ++ piece → FinishesAs i j f g n (requests fed).1 o → b' ≡ true → IsAtEnd l2 → Session told o d e l l2 h j b b'
     run_ends o fed j f g b b' is ends ended left = by_end (requests p.taken).1 refl (subst (λ (x : End). FinishesAs i j f g n x o) (ap (λ (x : Bytes). (requests x).1) (rest_is fed is) ∙ rest_end rest p.unfinished ∙ sym end_is) ends)
@@ -235,10 +237,11 @@ module _ {D : Type 0} (told : D → DeskState) where
     run_spent b b' full ended = parts outcome.Spent [] i b b' (refl, are_all, p.count ∙ full, subst HasNoFault (sym end_is) (no_fault rest), ended) (no_line h i _ all_said)
 
   -- memory ran out for what was read
-  run_unfed : (d e : D) (l l1 l2 h i : Known) (w rest piece : Bytes) (n : ℕ) (b b' : Bool) → InRun told d e l l1 h i w rest n → Consumes l1 l2 piece → Session told outcome.NoMem d e l l2 h i b b'
+  run_unfed : (d e : D) (l l1 l2 h i : Known) (w rest piece : Bytes) (n : ℕ) (b b' : Bool) → InRun told d e l l1 h i w rest n → Consumes l1 l2 piece → n + length piece ≤ 2 ^ 40 → Session told outcome.NoMem d e l l2 h i b b'
   unfolding Session
-  run_unfed d e l l1 l2 h i w rest piece n b b' p took = record {
+  run_unfed d e l l1 l2 h i w rest piece n b b' p took few = record {
     taken = p.taken ++ piece;
+    limit = omega (arith, length-append p.taken piece, p.count, few);
     served = p.serving.served;
     answers = p.serving.answered.answers;
     line = [];
@@ -249,13 +252,14 @@ module _ {D : Type 0} (told : D → DeskState) where
   }
 
   -- an answer or the reader stopped
-  run_stops : (d e f : D) (l l1 l2 h i j m : Known) (w rest fed rest' piece : Bytes) (n k g g' g2 : ℕ) (b b' : Bool) (x : Stopped) (o : Outcome) → InRun told d e l l1 h i w rest n → Consumes l1 l2 piece → length piece ≡ k → fed ≡ rest ++ piece
+  run_stops : (d e f : D) (l l1 l2 h i j m : Known) (w rest fed rest' piece : Bytes) (n k g g' g2 : ℕ) (b b' : Bool) (x : Stopped) (o : Outcome) → InRun told d e l l1 h i w rest n → n + k ≤ 2 ^ 40 → Consumes l1 l2 piece → length piece ≡ k → fed ≡ rest ++ piece
       → Serves told e f i j w [] g g' fed rest' (Err x) → StopsAs j m g' g2 (n + k) x o → Session told o d f l l2 h m b b'
   unfolding Serves Session
-  run_stops d e f l l1 l2 h i j m w rest fed rest' piece n k g g' g2 b b' stopped.NoMem o p took len is q s =
+  run_stops d e f l l1 l2 h i j m w rest fed rest' piece n k g g' g2 b b' stopped.NoMem o p few took len is q s =
       let all = serving_on d e f h i j w p.taken piece rest fed q.0 p.serving p.none is q.1 in
       subst (λ (v : Known). Session told o d f l l2 h v b b') (sym s.1) (subst (λ (v : Outcome). Session told v d f l l2 h j b b') (sym s.0) (record {
         taken = p.taken ++ piece;
+        limit = omega (arith, length-append p.taken piece, p.count, len, few);
         served = all.served;
         answers = all.answered.answers;
         line = [];
@@ -264,11 +268,12 @@ module _ {D : Type 0} (told : D → DeskState) where
         talk = all.answered.talk;
         wrote = no_line h j _ (all_sent h j _ all.answered.wrote);
       }))
-  run_stops d e f l l1 l2 h i j m w rest fed rest' piece n k g g' g2 b b' stopped.WriteFault o p took len is q s =
+  run_stops d e f l l1 l2 h i j m w rest fed rest' piece n k g g' g2 b b' stopped.WriteFault o p few took len is q s =
       let holds = together p.taken piece rest fed q.0 p.serving.served q.1.served p.serving.holds is q.1.holds in
       let broke = broken_then told d e f h i j [] [] p.serving.served q.1.served p.serving.answered (subst (λ (v : Bytes). Broken told e f i j v q.1.served) p.none q.1.broken) in
       subst (λ (v : Known). Session told o d f l l2 h v b b') (sym s.1) (subst (λ (v : Outcome). Session told v d f l l2 h j b b') (sym s.0) (record {
         taken = p.taken ++ piece;
+        limit = omega (arith, length-append p.taken piece, p.count, len, few);
         served = p.serving.served ++ q.1.served;
         answers = broke.answers;
         line = [];
@@ -277,7 +282,7 @@ module _ {D : Type 0} (told : D → DeskState) where
         talk = broke.talk;
         wrote = no_line_front h j _ broke.wrote;
       }))
-  run_stops d e f l l1 l2 h i j m w rest fed rest' piece n k g g' g2 b b' (stopped.Wire kind left) o p took len is q s =
+  run_stops d e f l l1 l2 h i j m w rest fed rest' piece n k g g' g2 b b' (stopped.Wire kind left) o p few took len is q s =
       let all = serving_on d e f h i j w p.taken piece rest fed q.0 p.serving p.none is q.1 in
       let at_end = holds_faulty (p.taken ++ piece) all.served q.0 kind left q.2 all.holds in
       let line : Bytes = wire_line (fault_of kind) (n + k - left) in
@@ -287,6 +292,7 @@ module _ {D : Type 0} (told : D → DeskState) where
       let broken : IsBroken (requests (p.taken ++ piece)).1 b' l2 = subst (λ (v : End). IsBroken v b' l2) at tt in
       record {
         taken = p.taken ++ piece;
+        limit = omega (arith, length-append p.taken piece, p.count, len, few);
         served = all.served;
         answers = all.answered.answers;
         line = line;
@@ -295,12 +301,13 @@ module _ {D : Type 0} (told : D → DeskState) where
         talk = all.answered.talk;
         wrote = said_on o h j m g' g2 _ line (all_sent h j _ all.answered.wrote) s;
       }
-  run_stops d e f l l1 l2 h i j m w rest fed rest' piece n k g g' g2 b b' stopped.Quit o p took len is q s =
+  run_stops d e f l l1 l2 h i j m w rest fed rest' piece n k g g' g2 b b' stopped.Quit o p few took len is q s =
       let holds = together p.taken piece rest fed q.0 p.serving.served q.1.served p.serving.holds is q.1.holds in
       let said = answered_then told d e f h i j [] [] [] p.serving.served q.1.served p.serving.answered (subst (λ (v : Bytes). Answered told e f i j v [] q.1.served) p.none q.1.answered) in
       let quit : IsQuit (p.taken ++ piece) (p.serving.served ++ q.1.served) = record { first = first_of (p.taken ++ piece) q.0 (p.serving.served ++ q.1.served) holds; quits = last_quits_then p.serving.served q.1.served p.serving.none q.1.quits } in
       subst (λ (v : Known). Session told o d f l l2 h v b b') (sym s.1) (subst (λ (v : Outcome). Session told v d f l l2 h j b b') (sym s.0) (record {
         taken = p.taken ++ piece;
+        limit = omega (arith, length-append p.taken piece, p.count, len, few);
         served = p.serving.served ++ q.1.served;
         answers = said.answers;
         line = [];
@@ -319,14 +326,14 @@ module _ {D : Type 0} (told : D → DeskState) where
       let at_end = q.5 none in
       run_ends d e l l1 l2 h i w rest q.0 total p q.4 (q.1 ∙ none) o fed j f f' b b2 q.3 ends at_end.0 at_end.1
 
-  pub pull_stops : (d e : D) (l l1 l2 h i : Known) (w rest fed : Bytes) (total room g g' : ℕ) (b b1 b2 : Bool) (o : Outcome) → InRun told d e l l1 h i w rest total → Pulls l1 l2 b1 b2 g g' rest fed room (Err o) → Session told o d e l l2 h i b b2
+  pub pull_stops : (d e : D) (l l1 l2 h i : Known) (w rest fed : Bytes) (total room g g' : ℕ) (b b1 b2 : Bool) (o : Outcome) → InRun told d e l l1 h i w rest total → Pulls l1 l2 b1 b2 g g' rest fed room (Err o) → total + room ≤ 2 ^ 40 → Session told o d e l l2 h i b b2
   unfolding Pulls
-  pull_stops d e l l1 l2 h i w rest fed total room g g' b b1 b2 outcome.Closed p q = absurd q
-  pull_stops d e l l1 l2 h i w rest fed total room g g' b b1 b2 outcome.NoMem p q = run_unfed d e l l1 l2 h i w rest q.0 total b b2 p q.1
-  pull_stops d e l l1 l2 h i w rest fed total room g g' b b1 b2 outcome.ReadFault p q = run_unread d e l l1 l2 h i w rest [] total p q.0 refl b b2
-  pull_stops d e l l1 l2 h i w rest fed total room g g' b b1 b2 outcome.WriteFault p q = absurd q
-  pull_stops d e l l1 l2 h i w rest fed total room g g' b b1 b2 outcome.Protocol p q = absurd q
-  pull_stops d e l l1 l2 h i w rest fed total room g g' b b1 b2 outcome.Spent p q = absurd q
+  pull_stops d e l l1 l2 h i w rest fed total room g g' b b1 b2 outcome.Closed p q few = absurd q
+  pull_stops d e l l1 l2 h i w rest fed total room g g' b b1 b2 outcome.NoMem p q few = run_unfed d e l l1 l2 h i w rest q.0 total b b2 p q.2 (omega (arith, few, q.1))
+  pull_stops d e l l1 l2 h i w rest fed total room g g' b b1 b2 outcome.ReadFault p q few = run_unread d e l l1 l2 h i w rest [] total p q.0 refl b b2
+  pull_stops d e l l1 l2 h i w rest fed total room g g' b b1 b2 outcome.WriteFault p q few = absurd q
+  pull_stops d e l l1 l2 h i w rest fed total room g g' b b1 b2 outcome.Protocol p q few = absurd q
+  pull_stops d e l l1 l2 h i w rest fed total room g g' b b1 b2 outcome.Spent p q few = absurd q
 
   -- what stopped a session has its cause
   pub stop_caused : (d e : D) (i j m : Known) (w fed rest : Bytes) (first g g' g2 total source source' : ℕ) (x : Stopped) (o : Outcome) → Serves told d e i j w [] g g' fed rest (Err x) → StopsAs j m g' g2 total x o → first ≤ g → g ≤ g' → IsCaused o source source' first g2
@@ -339,11 +346,13 @@ module _ {D : Type 0} (told : D → DeskState) where
   stop_caused d e i j m w fed rest first g g' g2 total source source' stopped.Quit o q s le later = subst (λ (v : Outcome). IsCaused v source source' first g2) (sym s.0) tt
 
   pub run_stops_at : (d e f : D) (l l1 l2 h i j m : Known) (w rest fed rest' : Bytes) (total n room k k' g g' g2 : ℕ) (b b1 b2 : Bool) (x : Stopped) (o : Outcome) → InRun told d e l l1 h i w rest total → Pulls l1 l2 b1 b2 k k' rest fed room (Ok n)
-      → Serves told e f i j w [] g g' fed rest' (Err x) → StopsAs j m g' g2 (total + n) x o → Session told o d f l l2 h m b b2
+      → Serves told e f i j w [] g g' fed rest' (Err x) → StopsAs j m g' g2 (total + n) x o → total + room ≤ 2 ^ 40 → Session told o d f l l2 h m b b2
   unfolding Pulls
-  run_stops_at d e f l l1 l2 h i j m w rest fed rest' total n room k k' g g' g2 b b1 b2 x o p q r s = run_stops d e f l l1 l2 h i j m w rest fed rest' q.0 total n g g' g2 b b2 x o p q.4 q.1 q.3 r s
+  run_stops_at d e f l l1 l2 h i j m w rest fed rest' total n room k k' g g' g2 b b1 b2 x o p q r s few =
+      run_stops d e f l l1 l2 h i j m w rest fed rest' q.0 total n g g' g2 b b2 x o p (omega (arith, few, q.2)) q.4 q.1 q.3 r s
 
   pub run_on : (d e f : D) (l l1 l2 h i j : Known) (w w' rest fed rest' : Bytes) (total n room k k' g g' : ℕ) (b1 b2 : Bool) (u : Unit {0}) → InRun told d e l l1 h i w rest total → Pulls l1 l2 b1 b2 k k' rest fed room (Ok n)
-      → Serves told e f i j w [] g g' fed rest' (Ok u) → w' ≡ [] → InRun told d f l l2 h j w' rest' (total + n)
+      → Serves told e f i j w [] g g' fed rest' (Ok u) → w' ≡ [] → total + room ≤ 2 ^ 40 → InRun told d f l l2 h j w' rest' (total + n)
   unfolding Pulls
-  run_on d e f l l1 l2 h i j w w' rest fed rest' total n room k k' g g' b1 b2 u p q r none = run_goes_on d e f l l1 l2 h i j w w' rest fed rest' q.0 total n g g' u p q.4 q.1 q.3 r none
+  run_on d e f l l1 l2 h i j w w' rest fed rest' total n room k k' g g' b1 b2 u p q r none few =
+      run_goes_on d e f l l1 l2 h i j w w' rest fed rest' q.0 total n g g' u p q.4 q.1 q.3 r none (omega (arith, few, q.2))

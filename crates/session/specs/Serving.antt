@@ -110,7 +110,7 @@ abbrev pub PullsAs : Option (List ℕ) → Option (List ℕ) → Bool → Bool �
 PullsAs left left' ended ended' faults faults' bytes bytes' room (Ok n) =
     (piece : Bytes) × (length piece ≡ n) × (n ≤ room) × (bytes' ≡ bytes ++ piece) × Consumes left left' piece × (n ≡ 0 → (ended' ≡ true) × IsAtEnd left') × (0 < n → ended' ≡ ended)
 PullsAs left left' ended ended' faults faults' bytes bytes' room (Err outcome.ReadFault) = Consumes left left' [] × Rose faults faults'
-PullsAs left left' ended ended' faults faults' bytes bytes' room (Err outcome.NoMem) = (piece : Bytes) × Consumes left left' piece
+PullsAs left left' ended ended' faults faults' bytes bytes' room (Err outcome.NoMem) = (piece : Bytes) × (length piece ≤ room) × Consumes left left' piece
 PullsAs left left' ended ended' faults faults' bytes bytes' room (Err _) = ⊥
 
 unfoldable pub Pulls : Option (List ℕ) → Option (List ℕ) → Bool → Bool → ℕ → ℕ → Bytes → Bytes → ℕ → Result ℕ Outcome → Type 0

@@ -1,5 +1,5 @@
 -- A session, from its first byte to its end.
-use Rattle.std.specs.Prelude.{◌≡◌, ◌-◌, ◌^◌, ◌⊎◌, ℕ, Bool, true, List, [], ◌++◌, length, Option}
+use Rattle.std.specs.Prelude.{◌≡◌, ◌≤◌, ◌-◌, ◌^◌, ◌⊎◌, ℕ, Bool, true, List, [], ◌++◌, length, Option}
 use Rattle.std.specs.Io.KnownBytes.{Appends, Consumes, IsAtEnd}
 use Rattle.kv_base.specs.Map.{Bytes}
 use Rattle.kv_outside.specs.Causes.{Rose}
@@ -86,14 +86,15 @@ IsCaused outcome.ReadFault source source' sink sink' = Rose source source'
 IsCaused outcome.WriteFault source source' sink sink' = Rose sink sink'
 IsCaused _ source source' sink sink' = Unit {0}
 
--- A session at a desk: the bytes that it took, the requests in them that it answered, each once and in order, and what
--- it wrote: the answers, and behind them the line of a fault of the wire.
+-- A session at a desk: the bytes that it took, at most 2^40, the requests in them that it answered, each once and in order, and
+-- what it wrote: the answers, and behind them the line of a fault of the wire.
 pub record SessionParts {D : Type 0} (told : D → DeskState) (o : Outcome) (old new : D) (left left' held held' : Option (List ℕ)) (ended ended' : Bool) : Type 0 where
   pub taken : Bytes
   pub served : List (List Bytes)
   pub answers : List Answer
   pub line : Bytes
   pub took : Consumes left left' taken
+  pub limit : length taken ≤ 2 ^ 40
   pub ends : EndsAs o taken served line left' ended ended'
   pub talk : Talks told old new served answers
   pub wrote : Writing o held held' (text answers ++ line)

@@ -2,10 +2,9 @@
 use Rattle.std.specs.Prelude.{◌≡◌, ℕ, if◌then◌else◌, List, [], ◌∷◌, Result, Ok, Err}
 use Rattle.std.specs.List.{flat_map}
 use Rattle.kv_base.specs.Map.{Bytes}
-use Rattle.redis_model.specs.declared.command.Command.{Command}
 use Rattle.redis_model.specs.declared.desk.DeskFault.{DeskFault}
 use Rattle.redis_model.specs.declared.reply.Reply.{Reply}
-use Rattle.redis_model.specs.Apply.{due}
+use Rattle.redis_model.specs.Asks.{Ask, Call, due}
 use Rattle.redis_model.specs.Built.{built}
 use Rattle.redis_model.specs.DeskState.{DeskState}
 use Rattle.redis_model.specs.Desk.{TakesReading, TakesCall}
@@ -18,14 +17,14 @@ use Rattle.session.specs.declared.answer.Answer.{Answer}
 use Rattle.session.specs.declared.answer.Answer.TheVariants as answer
 use Rattle.session.specs.Answer.{say, answered}
 
--- What is asked for: a command goes to the desk, and all else has an answer of the session's own.
+-- What is asked for goes to the desk, or has an answer of the session's own.
 pub data Asked : Type 0 where
-  ToDesk : Command → Asked
+  ToDesk : Ask → Asked
   Own : Answer → Asked
 
 -- what words ask for that were read so
 abbrev pub asked : Result Parsed CommandFault → Asked
-asked (Ok (parsed.Data c)) = if built c then ToDesk c else Own answer.Unserved
+asked (Ok (parsed.Data c)) = if built c then ToDesk (Call c) else Own answer.Unserved
 asked (Ok parsed.Quit) = Own answer.Quit
 asked (Ok _) = Own answer.Unserved
 asked (Err fault) = Own (answer.Refused fault)
@@ -35,19 +34,19 @@ abbrev pub IsLawful : Parsed → Type 0
 IsLawful (parsed.Data c) = IsWithin c
 IsLawful _ = Unit {0}
 
--- A command was put to the desk once, at a reading of its clock, and its answer is the desk's.
-pub record Asks {D : Type 0} (told : D → DeskState) (old new : D) (c : Command) (answer : Answer) : Type 0 where
+-- The desk was asked once, at a reading of its clock, and the answer is the desk's.
+pub record Asks {D : Type 0} (told : D → DeskState) (old new : D) (ask : Ask) (answer : Answer) : Type 0 where
   pub now : ℕ
   pub mid : D
   pub reading : TakesReading (told old) (told mid) now
   pub result : Result Reply DeskFault
-  pub call : TakesCall (told mid) (told new) now (due now c) result
+  pub call : TakesCall (told mid) (told new) now (due now ask) result
   pub says : answer ≡ answered result
 
 module _ {D : Type 0} (told : D → DeskState) where
   -- the desk is left alone by what it is not asked for
   abbrev pub TurnBy : D → D → Asked → Answer → Type 0
-  TurnBy old new (ToDesk c) answer = Asks told old new c answer
+  TurnBy old new (ToDesk ask) answer = Asks told old new ask answer
   TurnBy old new (Own said) answer = (answer ≡ said) × (new ≡ old)
 
 -- One request was answered, as what its words are read into; memory may have run out for that.

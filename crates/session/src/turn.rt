@@ -1,4 +1,5 @@
 ghost use Rattle.std.specs.Prelude.{◌≡◌, IsTrue, Ok};
+ghost use Rattle.redis_model.specs.Asks.{Call};
 ghost use Rattle.redis_model.specs.Built.{built};
 ghost use Rattle.redis_model.specs.Limits.{IsWithin};
 ghost use Rattle.cmd_words.specs.Words.{IsRequest};
@@ -15,7 +16,7 @@ use std::alloc::Global;
 fn ask<D: Desk>(desk: &mut D, mut command: Command) -> Answer
     requires within { IsWithin command }
     requires built { IsTrue (built command) }
-    ensures asks { Asks D.told desk.old desk.new command result }
+    ensures asks { Asks D.told desk.old desk.new (Call command) result }
     ensures loans { D.loans desk.new ≡ D.loans desk.old }
 {
     let now = desk.now();

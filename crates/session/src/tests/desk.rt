@@ -2,7 +2,7 @@ ghost use Rattle.std.specs.Prelude.{◌≡◌, IfErr};
 ghost use Rattle.redis_model.specs.declared.desk.DeskFault.TheVariants.{NoMem};
 
 use kv_base::{Blob, FileName};
-use redis_model::{Command, Desk, DeskFault, Reply};
+use redis_model::{Command, Desk, DeskFault, Reply, fault_in};
 use std::alloc::Global;
 
 /// A desk that keeps one value, whatever its key. Before there is one the file to read it from is damaged. It stands for
@@ -12,6 +12,7 @@ pub struct OneValue {
     alloc: Global,
     value: Option<Blob>,
     last: Option<u64>,
+    fault: Option<DeskFault>,
 }
 
 impl OneValue {
@@ -20,6 +21,7 @@ impl OneValue {
             alloc,
             value: None,
             last: None,
+            fault: None,
         }
     }
 }
@@ -28,21 +30,23 @@ impl Desk for OneValue {
     ghost use Rattle.std.specs.Prelude.{[], None, false};
 
     ghost told = { λ d. record {
-      stands = λ first seen. ⊥;
+      stands = λ opening seen. ⊥;
       number = 0;
       pinned = false;
       readings = None;
       last = d.last;
       faults = 0;
+      fault = d.fault;
       off = λ file place. Unit {0};
       sequence = 0;
       body = 0;
-      planned = λ now c. Unit {0};
+      planned = λ now ask. Unit {0};
+      met = None;
     } };
 
     ghost loans = { λ d. [] };
 
-    ghost knows = { λ d first seen stands. absurd stands };
+    ghost knows = { λ d opening seen stands. absurd stands };
 
     fn now(&mut self) -> u64 {
         self.last = Some(5);
@@ -70,6 +74,7 @@ impl Desk for OneValue {
             _ => Ok(Reply::Pong),
         };
         drop(command);
+        self.fault = fault_in(&answer);
         answer
     }
 }

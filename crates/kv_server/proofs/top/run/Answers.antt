@@ -5,5 +5,5 @@ pub returns : goal.returns
 returns g c =
     let served = c.serve-outcome.ensures in
     let ended = c.finish.ensures in
-    served_run c.finish.result _ _ _ _ _ _ _ _ _ _ c.serve-outcome.result _ _ _ _ _ _ _ _ _ _ _ _
+    served_run c.finish.result _ _ _ _ _ _ _ _ c.serve-outcome.result
     c.in-Ok.ensures.opened c.open.ensures.later served.later ended.later served.session served.caused ended.ends ended.kept ended.kept_or_more

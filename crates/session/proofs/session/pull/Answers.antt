@@ -1,4 +1,5 @@
-use Rattle.std.proofs.Common.{take}
+use Rattle.std.proofs.Common.{take, arith}
+use Rattle.std.proofs.lemmas.List.{length-take}
 use Rattle.session.specs.Serving.{Pulls}
 use Rattle.session.proofs.Pulling.{pulled, pull_failed}
 use Rattle.session.proofs.session.pull.Goals as goal
@@ -11,4 +12,4 @@ returns-in-Ok-feed-clause-pulled g c = pulled (g.S.Source.left c.args.source.now
 
 pub returns-in-Err-feed-clause-pulled : goal.returns-in-Err-feed-clause-pulled
 unfolding Pulls
-returns-in-Err-feed-clause-pulled g c = (take c.in-Ok.count c.read.new.out, c.in-Ok.ensures.bytes.0)
+returns-in-Err-feed-clause-pulled g c = (take c.in-Ok.count c.read.new.out, omega (arith, length-take c.in-Ok.count c.read.new.out, c.in-Ok.ensures.bound.0, c.read.auto.out), c.in-Ok.ensures.bytes.0)

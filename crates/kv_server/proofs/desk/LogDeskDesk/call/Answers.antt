@@ -1,10 +1,10 @@
+use Rattle.std.proofs.Common.{rules}
 use Rattle.kv_server.proofs.ToldDesk.{desk_called}
 use Rattle.kv_server.proofs.desk.LogDeskDesk.call.Goals as goal
 
 pub returns-clause-call : goal.returns-clause-call
 returns-clause-call g c =
     let answered = c.carry_out-answer.ensures in
-    desk_called (g.P.Keeper.kept c.args.self.now.kept.now) (g.P.Keeper.kept c.carry_out-answer.new.self) _ _ _ _ _ _ c.args.self.now.met c.last_sequence-self.result
-    c.args.self.now.body c.planned-self.result c.args.now c.args.command c.carry_out-answer.result
+    desk_called _ _ c.args.now c.args.command c.carry_out-answer.result
     answered.ok answered.sequence answered.fits answered.room answered.body answered.sized answered.unchanged answered.fault answered.later answered.kept
-    c.last_sequence-self.ensures.sequence c.planned-self.ensures
+    c.last_sequence-self.ensures.sequence c.planned-self.ensures c.fault_in.ensures (search rules) (search rules)
