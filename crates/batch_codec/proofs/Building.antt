@@ -16,7 +16,7 @@ use Rattle.batch_codec.specs.Batches.{Batch, is_row, are_rows}
 use Rattle.batch_codec.specs.declared.slot.Slot.TheVariants.{Del}
 use Rattle.batch_codec.specs.declared.slot.Entry.{Entry}
 use Rattle.batch_codec.specs.Slots.{slot_value, pair, pairs, batch_of, raw_cmp, lasts_from, lasts}
-use Rattle.batch_codec.specs.EntryLists.{entries_from_list, all_put}
+use Rattle.batch_codec.specs.EntryLists.{under, lt, both, entries_from_list, all_put}
 use Rattle.batch_codec.specs.BatchMaps.{IsKept}
 
 -- ---- what a map has at a raw key is what the entries of that raw key say
@@ -52,19 +52,19 @@ ties_is q e = ap (λ o. not (is_lt (byte_cmp q e.raw)) && not (is_lt o)) (nat_li
 of_raw_is : (q : Bytes) (es : List Entry) → filter (ties_with q) es ≡ of_raw q es
 of_raw_is q es = λ i. filter (λ e. ties_is q e i) es
 
-pub stable_batch : (old new : List Entry) → IsStable raw_cmp old new → batch_of new ≡ batch_of old
+stable_batch : (old new : List Entry) → IsStable raw_cmp old new → batch_of new ≡ batch_of old
 stable_batch old new stable =
     same_map (batch_of new) (batch_of old) (λ q.
-      get-entries empty q new
-      ∙ ap (latest (get empty q)) (sym (of_raw_is q new) ∙ stable (record { raw = q; slot = Del }) ∙ of_raw_is q old)
-      ∙ sym (get-entries empty q old))
+    get-entries empty q new
+    ∙ ap (latest (get empty q)) (sym (of_raw_is q new) ∙ stable (record { raw = q; slot = Del }) ∙ of_raw_is q old)
+    ∙ sym (get-entries empty q old))
 
 -- ---- keeping the last of neighbours leaves the map
 
 insert_over : (b : Batch) (k : Bytes) (x y : Option Bytes) → insert (insert b k x) k y ≡ insert b k y
 insert_over b k x y =
     same_map (insert (insert b k x) k y) (insert b k y) (λ q.
-      get-insert (insert b k x) k y q ∙ ap (cond (same q k) (Some y)) (get-insert b k x q) ∙ under (same q k) q ∙ sym (get-insert b k y q))
+    get-insert (insert b k x) k y q ∙ ap (cond (same q k) (Some y)) (get-insert b k x q) ∙ under (same q k) q ∙ sym (get-insert b k y q))
   where
     under : (t : Bool) (q : Bytes) → cond t (Some y) (cond t (Some x) (get b q)) ≡ cond t (Some y) (get b q)
     under true q = refl
@@ -76,61 +76,45 @@ lasts_from_batch b e (f ∷ es) =
     elim (same f.raw e.raw) as (λ t. same f.raw e.raw ≡ t → insert_all b (pairs (cond t (lasts_from f es) (e ∷ lasts_from f es))) ≡ insert_all b (pairs (e ∷ f ∷ es))) [
       | true ↦ λ t.
           let over : insert (insert b e.raw (slot_value e.slot)) f.raw (slot_value f.slot) ≡ insert b f.raw (slot_value f.slot) =
-            subst (λ (k : Bytes). insert (insert b k (slot_value e.slot)) f.raw (slot_value f.slot) ≡ insert b f.raw (slot_value f.slot)) (same_is f.raw e.raw t) (insert_over b f.raw (slot_value e.slot) (slot_value f.slot)) in
+          subst (λ (k : Bytes). insert (insert b k (slot_value e.slot)) f.raw (slot_value f.slot) ≡ insert b f.raw (slot_value f.slot)) (same_is f.raw e.raw t) (insert_over b f.raw (slot_value e.slot) (slot_value f.slot)) in
           lasts_from_batch b f es ∙ ap (λ (c : Batch). insert_all c (pairs es)) (sym over)
       | false ↦ λ t. lasts_from_batch (insert b e.raw (slot_value e.slot)) f es
     ] refl
 
-pub lasts_batch : (es : List Entry) → batch_of (lasts es) ≡ batch_of es
+lasts_batch : (es : List Entry) → batch_of (lasts es) ≡ batch_of es
 lasts_batch [] = refl
 lasts_batch (e ∷ es) = lasts_from_batch empty e es
 
 -- ---- of sorted entries they are in order
 
-second : (a b : Bool) → T (a && b) → T b
-second true b p = p
-second false b p = absurd p
+greater : (o : Ordering) → is_lt o ≡ false → is_eq o ≡ false → o ≡ Greater
+greater Less e f = absurd (cc)
+greater Equal e f = absurd (cc)
+greater Greater e f = refl
 
-both : (a b : Bool) → T a → T b → T (a && b)
-both true b p q = q
-both false b p q = p
+-- of neighbours in order with two raw keys the later one is above
+above : (e f : Entry) (es : List Entry) → IsSorted raw_cmp (e ∷ f ∷ es) → same f.raw e.raw ≡ false → byte_cmp e.raw f.raw ≡ Less
+above e f es h apart = under f.raw e.raw (greater (byte_cmp f.raw e.raw) (h 0 e (omega arith) (omega arith)) apart)
 
--- an entry that is not below another and has another raw key is above it
-above : (o : Ordering) → is_lt o ≡ false → is_eq o ≡ false → T (is_lt (ordering_reverse o))
-above Less e f = absurd (cc)
-above Equal e f = absurd (cc)
-above Greater e f = tt
-
-next : (e f : Entry) (es : List Entry) → IsSorted raw_cmp (e ∷ f ∷ es) → same f.raw e.raw ≡ false → T (is_lt (byte_cmp e.raw f.raw))
-next e f es h apart = subst (λ o. T (is_lt o)) (sym (nat_list_cmp_total.antisymm e.raw f.raw)) (above (byte_cmp f.raw e.raw) (h 0 e (omega arith) (omega arith)) apart)
-
-rest : (e : Entry) (es : List Entry) → IsSorted raw_cmp (e ∷ es) → IsSorted raw_cmp es
-rest e es h = λ k d low high.
+behind : (e : Entry) (es : List Entry) → IsSorted raw_cmp (e ∷ es) → IsSorted raw_cmp es
+behind e es h = λ k d low high.
     let one_on : suc k + 1 ≡ suc (k + 1) = omega arith in
     subst (λ (n : ℕ). is_lt (raw_cmp (get_or (e ∷ es) n d) (get_or es k d)) ≡ false) one_on (h (suc k) d (omega arith) (omega (arith, high)))
 
-below_lasts : (q : Bytes) (e : Entry) (es : List Entry) → IsSorted raw_cmp (e ∷ es) → T (is_lt (byte_cmp q e.raw)) → T (below_all byte_cmp q (pairs (lasts_from e es)))
-below_lasts q e [] h low = both _ _ low tt
+below_lasts : (q : Bytes) (e : Entry) (es : List Entry) → IsSorted raw_cmp (e ∷ es) → byte_cmp q e.raw ≡ Less → T (below_all byte_cmp q (pairs (lasts_from e es)))
+below_lasts q e [] h low = both _ _ (lt _ low) tt
 below_lasts q e (f ∷ es) h low =
     elim (same f.raw e.raw) as (λ t. same f.raw e.raw ≡ t → T (below_all byte_cmp q (pairs (cond t (lasts_from f es) (e ∷ lasts_from f es))))) [
-      | true ↦ λ t. below_lasts q f es (rest e (f ∷ es) h) (subst (λ (k : Bytes). T (is_lt (byte_cmp q k))) (sym (same_is f.raw e.raw t)) low)
-      | false ↦ λ t. both _ _ low (below_lasts q f es (rest e (f ∷ es) h) (on (next e f es h t)))
+      | true ↦ λ t. below_lasts q f es (behind e (f ∷ es) h) (subst (λ (k : Bytes). byte_cmp q k ≡ Less) (sym (same_is f.raw e.raw t)) low)
+      | false ↦ λ t. both _ _ (lt _ low) (below_lasts q f es (behind e (f ∷ es) h) (nat_list_cmp_total.trans q e.raw f.raw low (above e f es h t)))
     ] refl
-  where
-    less : (o : Ordering) → T (is_lt o) → o ≡ Less
-    less Less p = refl
-    less Equal p = absurd p
-    less Greater p = absurd p
-
-    on : T (is_lt (byte_cmp e.raw f.raw)) → T (is_lt (byte_cmp q f.raw))
-    on up = subst (λ o. T (is_lt o)) (sym (nat_list_cmp_total.trans q e.raw f.raw (less _ low) (less _ up))) tt
 
 sorted_lasts_from : (e : Entry) (es : List Entry) → IsSorted raw_cmp (e ∷ es) → T (is_sorted byte_cmp (pairs (lasts_from e es)))
 sorted_lasts_from e [] h = tt
 sorted_lasts_from e (f ∷ es) h =
     elim (same f.raw e.raw) as (λ t. same f.raw e.raw ≡ t → T (is_sorted byte_cmp (pairs (cond t (lasts_from f es) (e ∷ lasts_from f es))))) [
-      | true ↦ λ t. sorted_lasts_from f es (rest e (f ∷ es) h)
-      | false ↦ λ t. both _ _ (below_lasts e.raw f es (rest e (f ∷ es) h) (next e f es h t)) (sorted_lasts_from f es (rest e (f ∷ es) h))
+      | true ↦ λ t. sorted_lasts_from f es (behind e (f ∷ es) h)
+      | false ↦ λ t. both _ _ (below_lasts e.raw f es (behind e (f ∷ es) h) (above e f es h t)) (sorted_lasts_from f es (behind e (f ∷ es) h))
     ] refl
 
 sorted_lasts : (es : List Entry) → IsSorted raw_cmp es → T (is_sorted byte_cmp (pairs (lasts es)))
@@ -145,18 +129,22 @@ rows_inserted b [] h more = h
 rows_inserted b (e ∷ es) h more =
     rows_inserted (insert b e.0 e.1) es (all_put is_row e.0 e.1 b.entries h (both_first (is_row e) (are_rows es) more)) (both_second (is_row e) (are_rows es) more)
 
--- sorted entries of which the last of each raw key is kept
-pub built : (old sorted : List Entry) → IsTrue (are_rows (pairs old)) → IsStable raw_cmp old sorted → IsSorted raw_cmp sorted → IsKept (lasts sorted) × (batch_of (lasts sorted) ≡ batch_of old)
+-- ---- both together
+
+pub same_batch : (old sorted : List Entry) → IsStable raw_cmp old sorted → batch_of (lasts sorted) ≡ batch_of old
+same_batch old sorted stable = lasts_batch sorted ∙ stable_batch old sorted stable
+
+pub stands_in_order : (old sorted : List Entry) → IsTrue (are_rows (pairs old)) → IsStable raw_cmp old sorted → IsSorted raw_cmp sorted → IsKept (lasts sorted)
 unfolding empty
-built old sorted rows stable up =
+stands_in_order old sorted rows stable up =
     let order = sorted_lasts sorted up in
-    let is = lasts_batch sorted ∙ stable_batch old sorted stable in
-    ((order, ap are_rows (sym (entries_from_list (pairs (lasts sorted)) order)) ∙ ap (λ (b : Batch). are_rows b.entries) is ∙ rows_inserted empty (pairs old) refl rows), is)
+    let its_rows : are_rows (batch_of old).entries ≡ true = rows_inserted empty (pairs old) refl rows in
+    (order, ap are_rows (sym (entries_from_list (pairs (lasts sorted)) order)) ∙ ap (λ (b : Batch). are_rows b.entries) (same_batch old sorted stable) ∙ its_rows)
 
 -- ---- what `dedup_by` leaves where it puts the later of two neighbours in the place of the earlier one
 
 module _ {F : Type 0} (R : F → Entry → Entry → Bool → F → Entry → Entry → Type 0) (f : F)
-  (calls : (e kept : Entry) (t : Bool) (g : F) (e' kept' : Entry) → R f e kept t g e' kept' → (t ≡ same e.raw kept.raw) × (g ≡ f) × (e' ≡ cond t kept e) × (kept' ≡ cond t e kept)) where
+    (calls : (e kept : Entry) (t : Bool) (g : F) (e' kept' : Entry) → R f e kept t g e' kept' → (t ≡ same e.raw kept.raw) × (g ≡ f) × (e' ≡ cond t kept e) × (kept' ≡ cond t e kept)) where
   deduped_from : (es : List Entry) (g : F) (k : Entry) (ys : List Entry) → g ≡ f → DedupsFrom R g k es ys → ys ≡ lasts_from k es
   deduped_from [] g k ys e t = t
   deduped_from (x ∷ es) g k ys e t =
