@@ -1,25 +1,11 @@
 -- What stands at a raw key after a batch, and in two batches that are joined.
-use Rattle.std.specs.Prelude.{◌≡◌, Bool, true, false, cond, ◌&&◌, T, List, [], ◌∷◌, fold, Option, Some, None, option_map, refl}
+use Rattle.std.specs.Prelude.{◌≡◌, true, false, cond, T, List, [], ◌∷◌, fold, Option, Some, None, option_map, refl}
 use Rattle.std.proofs.Common.{sym, ◌∙◌, ap, subst}
-use Rattle.std.specs.declared.cmp.Ordering.{Ordering}
-use Rattle.std.specs.declared.cmp.Ordering.TheVariants.{Less, Equal, Greater}
-use Rattle.std.specs.Ordering.{is_lt, is_eq}
+use Rattle.std.specs.Ordering.{is_eq}
 use Rattle.std.specs.FinMap.Entries.{find, is_sorted, below_all}
 use Rattle.kv_base.specs.Map.{Bytes, byte_cmp, same, same_is, Map, get, insert, get-insert, get-remove}
 use Rattle.batch_codec.specs.Batches.{Batch, written, after, joined, over}
-
-second : (a b : Bool) → T (a && b) → T b
-second true b p = p
-second false b p = absurd p
-
-first : (a b : Bool) → T (a && b) → T a
-first true b p = tt
-first false b p = p
-
-less : (o : Ordering) → T (is_lt o) → o ≡ Less
-less Less p = refl
-less Equal p = absurd p
-less Greater p = absurd p
+use Rattle.batch_codec.specs.EntryLists.{first, second, less}
 
 find_below : {X : Type 0} (q : Bytes) (es : List (Bytes × X)) → T (below_all byte_cmp q es) → find byte_cmp q es ≡ None
 find_below q [] h = refl

@@ -23,23 +23,23 @@ under a b h = nat_list_cmp_total.antisymm b a ∙ ap ordering_reverse h
 pub level : (a b : Bytes) → byte_cmp a b ≡ Equal → byte_cmp b a ≡ Equal
 level a b h = nat_list_cmp_total.antisymm b a ∙ ap ordering_reverse h
 
-less : (o : Ordering) → T (is_lt o) → o ≡ Less
+pub less : (o : Ordering) → T (is_lt o) → o ≡ Less
 less Less p = refl
 less Equal p = absurd p
 less Greater p = absurd p
 
-lt : (o : Ordering) → o ≡ Less → T (is_lt o)
+pub lt : (o : Ordering) → o ≡ Less → T (is_lt o)
 lt o e = subst (λ r. T (is_lt r)) (sym e) tt
 
-first : (a b : Bool) → T (a && b) → T a
+pub first : (a b : Bool) → T (a && b) → T a
 first true b p = tt
 first false b p = p
 
-second : (a b : Bool) → T (a && b) → T b
+pub second : (a b : Bool) → T (a && b) → T b
 second true b p = p
 second false b p = absurd p
 
-both : (a b : Bool) → T a → T b → T (a && b)
+pub both : (a b : Bool) → T a → T b → T (a && b)
 both true b p q = q
 both false b p q = p
 

@@ -1,10 +1,12 @@
-ghost use Rattle.std.specs.Prelude.{◌≡◌, ◌==◌, IsTrue, OnOk, OnErr, Some, None, option_map};
+ghost use Rattle.std.specs.Prelude.{◌≡◌, ◌==◌, T, IsTrue, OnOk, OnErr, Some, None, option_map};
 ghost use Rattle.std.specs.List.{slice_get};
+ghost use Rattle.std.specs.FinMap.Entries.{is_sorted};
 ghost use Rattle.kv_base.specs.Map as map;
+ghost use Rattle.kv_base.specs.Map.{byte_cmp};
 ghost use Rattle.kv_base.specs.RawKeys.{is_raw_text};
 ghost use Rattle.kv_base.specs.MetaValues.{is_value_text};
 ghost use Rattle.batch_codec.specs.Batches.{are_rows, is_row};
-ghost use Rattle.batch_codec.specs.Slots.{pairs, slot_value};
+ghost use Rattle.batch_codec.specs.Slots.{batch_of, pairs, slot_value};
 
 use crate::place::place;
 use crate::slot::{Entry, Slot};
@@ -65,6 +67,15 @@ impl Batch {
         ensures err { OnErr result (self.new ≡ self.old) }
     {
         self.set(raw, Slot::Del)
+    }
+
+    /// The batch of these entries, which stand in order.
+    pub(crate) fn from_entries(entries: Vec<Entry>) -> Batch
+        requires ascending { T (is_sorted byte_cmp (pairs entries.items)) }
+        requires grammar { IsTrue (are_rows (pairs entries.items)) }
+        ensures { result ≡ batch_of entries.items }
+    {
+        Batch { entries }
     }
 
     fn set(&mut self, raw: Blob, slot: Slot) -> Result<(), NoMem>

@@ -5,6 +5,7 @@
 
 mod batch;
 mod body;
+mod builder;
 mod decode;
 mod laws;
 mod place;
@@ -13,6 +14,7 @@ mod slot;
 
 pub use batch::Batch;
 pub use body::encode_record;
+pub use builder::BatchBuilder;
 pub use decode::decode_body;
 pub use laws::{
     batches_write_their_rows, later_batches_win, only_records_are_read, records_are_read,
