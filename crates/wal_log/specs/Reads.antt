@@ -1,19 +1,22 @@
 -- What the reading of a segment tells.
-use Rattle.std.specs.Prelude.{◌≡◌, ℕ, nat_lt, List, length, Some, Result, Ok, Err}
-use Rattle.std.proofs.Common.{subst}
+use Rattle.std.specs.Prelude.{◌≡◌, ℕ, nat_lt, length, Some, Result, Ok, Err}
+use Rattle.std.proofs.Common.{subst, sym}
 use Rattle.kv_base.specs.Map.{Bytes}
 use Rattle.kv_base.specs.declared.name.FileName.{FileName}
 use Rattle.kv_base.specs.declared.fault.StoreFault.{StoreFault}
 use Rattle.kv_base.specs.declared.fault.StoreFault.TheVariants.{Failed, Damaged, NoMem}
 use Rattle.kv_outside.specs.Disk.{Disk, Leaves}
 use Rattle.gated_log.specs.Gated.{records as bodies_in, EndsAt}
-use Rattle.wal_log.specs.Segments.{segment_of, end_of}
+use Rattle.wal_log.specs.Segments.{last_behind, segment_of, end_of}
 use Rattle.wal_log.specs.declared.segment.Found.{Found}
+use Rattle.wal_log.specs.declared.segment.Stamp.{Stamp}
 
--- what was found in a segment with these bytes
-pub record IsFound (found : Found) (bytes : Bytes) : Type 0 where
+-- what was found in a segment with these bytes, behind a record of this stamp
+pub record IsFound (before : Stamp) (found : Found) (bytes : Bytes) : Type 0 where
   -- its records, in their order
-  pub records : segment_of bytes ≡ Ok found.records
+  pub records : segment_of before bytes ≡ Ok found.records
+  -- the stamp with which the next segment goes on
+  pub last : found.last ≡ last_behind before found.records
   -- the place behind the open records, where a log may be resumed
   pub end : found.end ≡ end_of bytes
   pub ends : EndsAt found.end (bodies_in bytes) bytes
@@ -21,16 +24,16 @@ pub record IsFound (found : Found) (bytes : Bytes) : Type 0 where
   pub any : found.any ≡ nat_lt 0 (length bytes)
 
 -- in these bytes of this file the first damage is there
-pub record IsDamaged (name file : FileName) (place : ℕ) (bytes : Bytes) : Type 0 where
+pub record IsDamaged (before : Stamp) (name file : FileName) (place : ℕ) (bytes : Bytes) : Type 0 where
   pub file_is : file ≡ name
-  pub place_is : segment_of bytes ≡ Err place
+  pub place_is : segment_of before bytes ≡ Err place
 
 -- what each answer says of a segment of this name with these bytes
-abbrev pub ReadsBytes : FileName → Bytes → Result Found StoreFault → Type 0
-ReadsBytes name bytes (Ok found) = IsFound found bytes
-ReadsBytes name bytes (Err (Damaged file place)) = IsDamaged name file place bytes
-ReadsBytes name bytes (Err Failed) = ⊥
-ReadsBytes name bytes (Err NoMem) = Unit {0}
+abbrev pub ReadsBytes : Stamp → FileName → Bytes → Result Found StoreFault → Type 0
+ReadsBytes before name bytes (Ok found) = IsFound before found bytes
+ReadsBytes before name bytes (Err (Damaged file place)) = IsDamaged before name file place bytes
+ReadsBytes before name bytes (Err Failed) = ⊥
+ReadsBytes before name bytes (Err NoMem) = Unit {0}
 
 -- A file was read, and its bytes have P: those that it reads as, where the disk tells. From then on a crash leaves them.
 pub record Reads (name : FileName) (old new : Disk) (P : Bytes → Type 0) : Type 0 where
@@ -39,16 +42,18 @@ pub record Reads (name : FileName) (old new : Disk) (P : Bytes → Type 0) : Typ
   pub left : Leaves new name (λ c. c ≡ bytes)
   pub are : P bytes
 
--- What each answer says of the segment of this name: what was found in its bytes, or where they are damaged. The other
--- faults say nothing of it.
-abbrev pub ReadsSegment : FileName → Disk → Disk → Result Found StoreFault → Type 0
-ReadsSegment name old new (Ok found) = Reads name old new (IsFound found)
-ReadsSegment name old new (Err (Damaged file place)) = Reads name old new (IsDamaged name file place)
-ReadsSegment name old new (Err Failed) = Unit {0}
-ReadsSegment name old new (Err NoMem) = Unit {0}
+-- What each answer says of the segment of this name, which stands behind a record of this stamp: what was found in its
+-- bytes, or where they are damaged. The other faults say nothing of it.
+abbrev pub ReadsSegment : Stamp → FileName → Disk → Disk → Result Found StoreFault → Type 0
+ReadsSegment before name old new (Ok found) = Reads name old new (IsFound before found)
+ReadsSegment before name old new (Err (Damaged file place)) = Reads name old new (IsDamaged before name file place)
+ReadsSegment before name old new (Err Failed) = Unit {0}
+ReadsSegment before name old new (Err NoMem) = Unit {0}
 
 -- ---- laws
 
--- where a segment was found, a log is resumed behind its bodies
-pub found_ends : (found : Found) (bodies : List Bytes) (bytes : Bytes) → IsFound found bytes → bodies_in bytes ≡ bodies → EndsAt found.end bodies bytes
-found_ends found bodies bytes is same = subst (λ (bs : List Bytes). EndsAt found.end bs bytes) same is.ends
+-- where a segment was found, each crash leaves its bodies and their end, so a log may be resumed behind them
+pub found_leaves : (before : Stamp) (name : FileName) (old new : Disk) (found : Found) (read : Reads name old new (IsFound before found)) → Leaves new name (EndsAt found.end (bodies_in read.bytes))
+found_leaves before name old new found read = record {
+  each = λ c image. subst (EndsAt found.end (bodies_in read.bytes)) (sym (read.left.each c image)) read.are.ends;
+}

@@ -1,18 +1,22 @@
--- What the bytes of a segment hold: its records in order, or where the first damage is.
-use Rattle.std.specs.Prelude.{ℕ, ◌+◌, nat_le, Bool, true, if◌then◌else◌, ◌&&◌, ◌==◌, List, [], ◌∷◌, length, Option, Some, None, option_and_then, Result, Ok, Err}
+-- What the bytes of a segment hold, behind a record of this stamp: its records in order, or where the first damage is.
+use Rattle.std.specs.Prelude.{ℕ, ◌+◌, nat_le, Bool, if◌then◌else◌, ◌&&◌, ◌==◌, List, [], ◌∷◌, length, Option, Some, None, option_and_then, Result, Ok, Err}
 use Rattle.std.specs.Option.{option_map_or}
 use Rattle.kv_base.specs.Map.{Bytes}
 use Rattle.gated_log.specs.Gated.{records, gated}
 use Rattle.batch_codec.specs.Bodies.{read_body}
 use Rattle.batch_codec.specs.declared.record.Record.{Record}
+use Rattle.wal_log.specs.declared.segment.Stamp.{Stamp}
 
--- its sequence is one more than that of the record before it, and its moment is not below; the first record is free
-abbrev pub is_next : Option Record → Record → Bool
-is_next None next = true
-is_next (Some last) next = (next.seq == last.seq + 1) && nat_le last.moment next.moment
+-- the sequence and the moment of a record
+abbrev pub stamp_of : Record → Stamp
+stamp_of r = record { seq = r.seq; moment = r.moment }
+
+-- its sequence is one more than that of the record before it, and its moment is not below
+abbrev pub is_next : Stamp → Record → Bool
+is_next last next = (next.seq == last.seq + 1) && nat_le last.moment next.moment
 
 -- the record with this body, where it is one's and that record may stand behind the last one
-unfoldable pub record_behind : Option Record → Bytes → Option Record
+unfoldable pub record_behind : Stamp → Bytes → Option Record
 record_behind last body = option_and_then (λ next. if is_next last next then Some next else None) (read_body body)
 
 -- a record before what stands behind it, which may be damage
@@ -20,29 +24,25 @@ abbrev pub with_first : Record → Result (List Record) ℕ → Result (List Rec
 with_first first (Ok behind) = Ok (first ∷ behind)
 with_first first (Err place) = Err place
 
--- The records with these bodies, where the first gate stands at this place and the last record before it is this one;
--- or the place of the gate of the first that is damage. A gate and a length take five bytes.
-unfoldable pub records_from : ℕ → Option Record → List Bytes → Result (List Record) ℕ
+-- The records with these bodies, where the first gate stands at this place and the record before it has this stamp; or the
+-- place of the gate of the first that is damage. A gate and a length take five bytes.
+unfoldable pub records_from : ℕ → Stamp → List Bytes → Result (List Record) ℕ
 records_from place last [] = Ok []
 records_from place last (body ∷ bodies) =
-    option_map_or (λ first. with_first first (records_from (place + 5 + length body) (Some first) bodies)) (record_behind last body) (Err place)
+    option_map_or (λ first. with_first first (records_from (place + 5 + length body) (stamp_of first) bodies)) (record_behind last body) (Err place)
 
 -- the records with these bodies, from a file's start on, or the place of the first damage
-unfoldable pub records_of : List Bytes → Result (List Record) ℕ
-records_of bodies = records_from 0 None bodies
+unfoldable pub records_of : Stamp → List Bytes → Result (List Record) ℕ
+records_of before bodies = records_from 0 before bodies
 
--- the last of these records, or the one before them where there is none
-abbrev pub last_behind : Option Record → List Record → Option Record
+-- the stamp of the last of these records, or of the one before them where there is none
+abbrev pub last_behind : Stamp → List Record → Stamp
 last_behind last [] = last
-last_behind last (next ∷ behind) = last_behind (Some next) behind
-
--- the last of these records
-abbrev pub last_of : List Record → Option Record
-last_of = last_behind None
+last_behind last (next ∷ behind) = last_behind (stamp_of next) behind
 
 -- the records of a segment with these bytes, in their order, or the place of the first damage
-unfoldable pub segment_of : Bytes → Result (List Record) ℕ
-segment_of bytes = records_of (records bytes)
+unfoldable pub segment_of : Stamp → Bytes → Result (List Record) ℕ
+segment_of before bytes = records_of before (records bytes)
 
 -- the place behind the open records of a file with these bytes
 unfoldable pub end_of : Bytes → ℕ

@@ -2,7 +2,8 @@
 //!
 //! A segment `wal-N` is a gated file of batch bodies. Its records are those of the file's open bodies, in order. An open
 //! record whose body is off the grammar, or whose sequence is not one more than that of the record before it, or whose
-//! moment is below it, is damage at the place of its gate. `specs/Segments.antt` says so as definitions.
+//! moment is below it, is damage at the place of its gate. Who reads a segment says what comes before its first record.
+//! `specs/Segments.antt` says so as definitions.
 #![tactic(auto)]
 
 mod read;
@@ -11,4 +12,4 @@ mod segment;
 mod tests;
 
 pub use read::read_all;
-pub use segment::{Found, Records, Segment};
+pub use segment::{Found, Records, Segment, Stamp};

@@ -1,7 +1,7 @@
 //! Bytes from outside, and what calls that fail and crashes leave of a segment.
 ghost use Rattle.std.specs.Prelude.{◌≤◌};
 
-use crate::{Segment, read_all};
+use crate::{Segment, Stamp, read_all};
 use batch_codec::{Batch, encode_record};
 use kv_base::{Blob, FileName, StoreFault, is_value};
 use kv_fakes::{Calls, MemDisk};
@@ -10,6 +10,17 @@ use std::alloc::Global;
 use std::test::Fail;
 
 const NAME: FileName = FileName::Segment(1);
+
+/// Before the first record of all.
+const START: Stamp = Stamp { seq: 0, moment: 0 };
+
+/// Before a record of the sequence 7, whatever its moment.
+const BEFORE_SEVEN: Stamp = Stamp { seq: 6, moment: 0 };
+
+/// That the segment is damaged at this place.
+fn damaged(place: u64) -> Option<StoreFault> {
+    Some(StoreFault::Damaged { file: NAME, place })
+}
 
 /// The body of a batch that sets the key `a` to the string `1`.
 fn body(alloc: Global, seq: u64, moment: u64) -> Result<RecordBody, Fail>
@@ -51,17 +62,19 @@ fn a_set_has_these_bytes_and_is_read(rt: HostRuntime) -> Result<(), Fail> {
         \x01\0\0\0\x03\x6D\0\x61\0\0\0\x0A\x81\0\0\0\0\0\0\0\0\x31\0";
     assert_eq!(rt; disk.bytes(NAME), bytes.as_slice());
 
-    let found = read_all(alloc, &mut disk, 1)?;
+    let found = read_all(alloc, &mut disk, 1, START)?;
     assert_eq!(rt; found.records.len(), 1);
     let record = found.records.get(0).ok_or("a record")?;
     assert_eq!(rt; record.seq, 1);
     assert_eq!(rt; record.moment, 5);
     assert_eq!(rt; record.batch.len(), 1);
+    assert_eq!(rt; found.last, Stamp { seq: 1, moment: 5 });
     assert_eq!(rt; found.end, 47);
     assert!(rt; found.any);
 
-    let absent = read_all(alloc, &mut disk, 2)?;
+    let absent = read_all(alloc, &mut disk, 2, found.last)?;
     assert!(rt; absent.records.is_empty() && absent.end == 0 && !absent.any);
+    assert_eq!(rt; absent.last, found.last);
     Ok(())
 }
 
@@ -70,21 +83,41 @@ fn damage_is_told_at_its_gate(rt: HostRuntime) -> Result<(), Fail> {
     let alloc = rt.alloc();
     let mut disk = MemDisk::new(alloc, Calls::new(alloc));
     disk.put(NAME, Blob::copy(alloc, b"\x01\0\0\0\x01\xFF\0")?)?;
-    let damaged = StoreFault::Damaged {
-        file: NAME,
-        place: 0,
-    };
-    assert_eq!(rt; read_all(alloc, &mut disk, 1).err(), Some(damaged));
+    assert_eq!(rt; read_all(alloc, &mut disk, 1, START).err(), damaged(0));
 
     // a sequence that stays, one that leaps, and a moment that falls
-    let damaged = StoreFault::Damaged {
-        file: NAME,
-        place: 47,
-    };
     for second in [(7, 5), (9, 5), (8, 4)] {
         let mut disk = segment(alloc, &[(7, 5), second, (9, 6)])?;
-        assert_eq!(rt; read_all(alloc, &mut disk, 1).err(), Some(damaged));
+        assert_eq!(rt;
+            read_all(alloc, &mut disk, 1, BEFORE_SEVEN).err(),
+            damaged(47)
+        );
     }
+    Ok(())
+}
+
+#[test]
+fn the_first_record_goes_on_from_the_one_before(rt: HostRuntime) -> Result<(), Fail> {
+    let alloc = rt.alloc();
+    let mut disk = segment(alloc, &[(7, 5), (8, 5)])?;
+    for moment in [0, 5] {
+        let found = read_all(alloc, &mut disk, 1, Stamp { seq: 6, moment })?;
+        assert_eq!(rt; found.last, Stamp { seq: 8, moment: 5 });
+    }
+
+    // a sequence that stays, one that leaps, and a moment that falls
+    for (seq, moment) in [(7, 5), (5, 5), (0, 0), (6, 6)] {
+        let found = read_all(alloc, &mut disk, 1, Stamp { seq, moment });
+        assert_eq!(rt; found.err(), damaged(0));
+    }
+
+    // it is told before any damage behind it
+    let mut disk = segment(alloc, &[(7, 5), (7, 5)])?;
+    assert_eq!(rt; read_all(alloc, &mut disk, 1, START).err(), damaged(0));
+    assert_eq!(rt;
+        read_all(alloc, &mut disk, 1, BEFORE_SEVEN).err(),
+        damaged(47)
+    );
     Ok(())
 }
 
@@ -98,7 +131,7 @@ fn a_cut_segment_reads_as_a_front(rt: HostRuntime) -> Result<(), Fail> {
         let mut disk = MemDisk::new(alloc, Calls::new(alloc));
         let (front, _) = bytes.split_at(length);
         disk.put(NAME, Blob::copy(alloc, front)?)?;
-        let found = read_all(alloc, &mut disk, 1)?;
+        let found = read_all(alloc, &mut disk, 1, BEFORE_SEVEN)?;
         assert_eq!(rt; found.records.len(), length / 47);
         assert_eq!(rt; found.end, (length / 47 * 47) as u64);
         assert_eq!(rt; found.any, length > 0);
@@ -112,7 +145,7 @@ fn left_by_crashes(alloc: Global, disk: &MemDisk) -> Result<(usize, usize), Fail
     let mut most = 0;
     for choice in 0..100 {
         let mut left = disk.crash(choice)?;
-        let found = read_all(alloc, &mut left, 1)?;
+        let found = read_all(alloc, &mut left, 1, START)?;
         least = least.min(found.records.len());
         most = most.max(found.records.len());
     }
