@@ -17,7 +17,7 @@ use Rattle.redis_model.specs.Value.{RedisMap, alive}
 use Rattle.lives_model.specs.Rows.{Rows}
 use Rattle.lives_model.specs.Means.{Means}
 use Rattle.log_store.specs.Planned.{IsOfCommands}
-use Rattle.log_store.specs.Recover.{Recovered, by_records, recovered_by, recovered, with_record}
+use Rattle.log_store.specs.Recover.{Recovered, before_all, nothing, recovered_by, recovered, with_record, with_records}
 
 -- the log's only segment
 abbrev pub log_file : FileName
@@ -55,7 +55,7 @@ pub record IsAttempt (bodies : List Bytes) (tried : Bytes) (before : Recovered) 
   pub sequence : r.seq ≡ before.sequence + 1
   pub later : before.floor ≤ r.moment
   pub of : IsOfCommands before.rows r.moment before.sequence r.batch
-  pub made : recovered_by (records_of (bodies ++ tried ∷ [])) ≡ Ok (with_record before r)
+  pub made : recovered_by (records_of before_all (bodies ++ tried ∷ [])) ≡ Ok (with_record before r)
 
 pub record Attempted (disk : Disk) (log : LogState) (bodies : List Bytes) (state : Recovered) : Type 0 where
   pub tried : Bytes
@@ -75,8 +75,8 @@ pub record IsKept (disk : Disk) (store : StoreState) : Type 0 where
   pub records : List Record
   pub state : Recovered
   pub name : store.log.name ≡ log_file
-  pub read : records_of bodies ≡ Ok records
-  pub made : by_records records ≡ Ok state
+  pub read : records_of before_all bodies ≡ Ok records
+  pub made : with_records nothing records ≡ state
   pub rows : state.rows ≡ store.rows
   pub written : state.floor ≡ store.written
   pub last : state.sequence ≡ store.sequence
