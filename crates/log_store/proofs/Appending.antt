@@ -13,65 +13,26 @@ use Rattle.batch_codec.specs.Batches.{Batch, after}
 use Rattle.batch_codec.specs.Bodies.{body_of, is_seq, is_moment}
 use Rattle.batch_codec.specs.BodyLaws.{IsWritable}
 use Rattle.batch_codec.specs.declared.record.Record.{Record}
-use Rattle.wal_log.specs.Segments.{is_next, record_behind, records_of, last_behind, last_of}
+use Rattle.wal_log.specs.Segments.{is_next, record_behind, records_of, last_behind}
 use Rattle.wal_log.specs.SegmentLaws.{segment_of-records, records_of-push, record_behind-written}
+use Rattle.wal_log.specs.declared.segment.Stamp.{Stamp}
 use Rattle.redis_model.specs.Machine.{State}
 use Rattle.lives_model.specs.Rows.{Rows}
-use Rattle.log_store.specs.Recover.{Recovered, nothing, with_batch, with_record, with_records, by_records, recovered_by, recovered}
+use Rattle.log_store.specs.Recover.{Recovered, before_all, nothing, with_batch, with_record, with_records, recovered_by, recovered}
 use Rattle.log_store.specs.Planned.{IsOfCommands}
 use Rattle.log_store.specs.Keeping.{log_file, StoreState, state_of, StandsFor, IsAttempt, Attempted, Holds, IsKept, ComesTo, ComesToEither, ComesToKeys, Keeps, KeepsOrMore}
-use Rattle.log_store.specs.KeepLaws.{same_state, stands_comes}
+use Rattle.log_store.specs.KeepLaws.{stands_comes}
 use Rattle.log_store.specs.Playing.{IsWrite}
+use Rattle.log_store.proofs.Replaying.{stamp_in, with_records-stamp}
 
 -- ---- one record more
-
--- the state has the sequence and the moment of the last record
-abbrev IsLast : Option Record → Recovered → Type 0
-IsLast None state = state.sequence ≡ 0
-IsLast (Some last) state = (last.seq ≡ state.sequence) × (last.moment ≡ state.floor)
-
-with_records-last : (before : Recovered) (last : Option Record) (rs : List Record) → IsLast last before → IsLast (last_behind last rs) (with_records before rs)
-with_records-last before last [] is = is
-with_records-last before last (r ∷ rs) is = with_records-last (with_record before r) (Some r) rs (refl, refl)
 
 with_records-push : (before : Recovered) (rs : List Record) (r : Record) → with_records before (rs ++ r ∷ []) ≡ with_record (with_records before rs) r
 with_records-push before [] r = refl
 with_records-push before (s ∷ rs) r = with_records-push (with_record before s) rs r
 
-record IsFrom (r : Record) (rs : List Record) (state : Recovered) : Type 0 where
-  pub first : (r.seq == 1) ≡ true
-  pub is : with_records nothing (r ∷ rs) ≡ state
-
-from_first : (r : Record) (rs : List Record) (state : Recovered) → by_records (r ∷ rs) ≡ Ok state → IsFrom r rs state
-from_first r rs state is = by_test (r.seq == 1) refl is
-  where
-    by_test : (b : Bool) → (r.seq == 1) ≡ b → cond {A = Result Recovered ℕ} b (Ok (with_records nothing (r ∷ rs))) (Err 0) ≡ Ok state → IsFrom r rs state
-    by_test true first is = record { first = first; is = same_state _ state is }
-    by_test false first is = absurd (cc)
-
-by_records-last : (rs : List Record) (state : Recovered) → by_records rs ≡ Ok state → IsLast (last_of rs) state
-by_records-last [] state is = ap (λ (s : Recovered). s.sequence) (sym (same_state nothing state is))
-by_records-last (r ∷ rs) state is =
-    let from = from_first r rs state is in
-    subst (λ (s : Recovered). IsLast (last_behind (Some r) rs) s) from.is (with_records-last (with_record nothing r) (Some r) rs (refl, refl))
-
-by_records-push : (rs : List Record) (r : Record) (state : Recovered) → by_records rs ≡ Ok state → r.seq ≡ state.sequence + 1 → by_records (rs ++ r ∷ []) ≡ Ok (with_record state r)
-by_records-push [] r state is next =
-    let same = same_state nothing state is in
-    let zero : 0 ≡ state.sequence = ap (λ (s : Recovered). s.sequence) same in
-    let first : (r.seq == 1) ≡ true = one r.seq (omega arith) in
-    ap (λ b. cond {A = Result Recovered ℕ} b (Ok (with_record nothing r)) (Err 0)) first ∙ ap (λ (s : Recovered). Ok (with_record s r)) same
-  where
-    one : (n : ℕ) → n ≡ 1 → (n == 1) ≡ true
-    one n is = grind (arith, nat_tests)
-by_records-push (s ∷ rs) r state is next =
-    let from = from_first s rs state is in
-    ap (λ b. cond {A = Result Recovered ℕ} b (Ok (with_records nothing (s ∷ (rs ++ r ∷ [])))) (Err 0)) from.first
-    ∙ ap (λ (t : Recovered). Ok t) (with_records-push nothing (s ∷ rs) r ∙ ap (λ (t : Recovered). with_record t r) from.is)
-
-may_follow : (last : Option Record) (state : Recovered) (r : Record) → IsLast last state → r.seq ≡ state.sequence + 1 → state.floor ≤ r.moment → is_next last r ≡ true
-may_follow None state r is next later = refl
-may_follow (Some last) state r is next later = follows last.seq last.moment r.seq r.moment (omega (arith, is.0)) (omega (arith, is.1))
+may_follow : (last : Stamp) (state : Recovered) (r : Record) → last ≡ stamp_in state → r.seq ≡ state.sequence + 1 → state.floor ≤ r.moment → is_next last r ≡ true
+may_follow last state r is next later = ap (λ (s : Stamp). is_next s r) is ∙ follows state.sequence state.floor r.seq r.moment next later
   where
     follows : (m t n u : ℕ) → n ≡ m + 1 → t ≤ u → ((n == m + 1) && nat_le t u) ≡ true
     follows m t n u next later = grind (arith, nat_tests)
@@ -98,22 +59,23 @@ is_writable sequence floor batch moment body write = record {
 
 -- the log's bodies and one more are read, as the records and this one
 record IsAdded (bodies : List Bytes) (records : List Record) (state : Recovered) (body : Bytes) (r : Record) : Type 0 where
-  pub read : records_of (bodies ++ body ∷ []) ≡ Ok (records ++ r ∷ [])
-  pub made : by_records (records ++ r ∷ []) ≡ Ok (with_record state r)
+  pub read : records_of before_all (bodies ++ body ∷ []) ≡ Ok (records ++ r ∷ [])
+  pub made : with_records nothing (records ++ r ∷ []) ≡ with_record state r
 
 is_added : (bodies : List Bytes) (records : List Record) (state : Recovered) (floor : ℕ) (batch : Batch) (moment : ℕ) (body : Bytes)
-    → records_of bodies ≡ Ok records → by_records records ≡ Ok state → state.floor ≤ floor → IsWrite state.sequence floor batch moment body
+    → records_of before_all bodies ≡ Ok records → with_records nothing records ≡ state → state.floor ≤ floor → IsWrite state.sequence floor batch moment body
     → IsAdded bodies records state body (record_of state.sequence moment batch)
 is_added bodies records state floor batch moment body read made low write =
     let r : Record = record_of state.sequence moment batch in
-    let behind : record_behind (last_of records) body ≡ Some r =
-    ap (record_behind (last_of records)) write.is
-    ∙ record_behind-written (last_of records) (state.sequence + 1) moment batch (is_writable state.sequence floor batch moment body write)
+    let end = last_behind before_all records in
+    let behind : record_behind end body ≡ Some r =
+    ap (record_behind end) write.is
+    ∙ record_behind-written end (state.sequence + 1) moment batch (is_writable state.sequence floor batch moment body write)
     (short body (body_of (state.sequence + 1) moment batch) write.is write.fits)
-    (may_follow (last_of records) state r (by_records-last records state made) refl (omega (arith, write.later))) in
+    (may_follow end state r (with_records-stamp nothing records ∙ ap stamp_in made) refl (omega (arith, write.later))) in
     record {
-      read = records_of-push bodies body records r read behind;
-      made = by_records-push records r state made refl;
+      read = records_of-push before_all bodies body records r read behind;
+      made = with_records-push nothing records r ∙ ap (λ (s : Recovered). with_record s r) made;
     }
   where
     short : (a b : Bytes) → a ≡ b → length a ≤ 4294967295 → length b < 2 ^ 32
@@ -184,7 +146,7 @@ batch_tried disk old batch moment body past write of kept =
       sequence = refl;
       later = omega (arith, past, write.later);
       of = of;
-      made = ap recovered_by more.read ∙ more.made;
+      made = ap recovered_by more.read ∙ ap (λ (s : Recovered). Ok s) more.made;
     }
 
 still_holds : (was unsure : Bool) (before now : Disk) (old new : LogState) (bodies : List Bytes) (state : Recovered) (r : Record) (body : Bytes) → IsAttempt bodies body state r
@@ -226,8 +188,8 @@ kept_left before now old new seen done batch moment body past write was is left 
 -- ---- what a crash leaves
 
 -- bytes with these bodies come to this state
-comes_to : (bytes : Bytes) (bodies : List Bytes) (rs : List Record) (state : Recovered) → records bytes ≡ bodies → records_of bodies ≡ Ok rs → by_records rs ≡ Ok state → recovered bytes ≡ Ok state
-comes_to bytes bodies rs state is read made = ap recovered_by (segment_of-records bytes bodies is ∙ read) ∙ made
+comes_to : (bytes : Bytes) (bodies : List Bytes) (rs : List Record) (state : Recovered) → records bytes ≡ bodies → records_of before_all bodies ≡ Ok rs → with_records nothing rs ≡ state → recovered bytes ≡ Ok state
+comes_to bytes bodies rs state is read made = ap recovered_by (segment_of-records before_all bytes bodies is ∙ read) ∙ ap (λ (s : Recovered). Ok s) made
 
 leaves_at : (disk : Disk) (at name : FileName) (P : Bytes → Type 0) → at ≡ name → Leaves disk at P → Leaves disk name P
 leaves_at disk at name P is leaves = subst (λ (n : FileName). Leaves disk n P) is leaves
@@ -304,5 +266,5 @@ keeps_unsure before now old log true is unsure name left kept =
   where
     after_tried : (a : Attempted before old.log kept.bodies (state_of old)) → (c : Bytes) → records c ≡ kept.bodies ++ a.tried ∷ [] → ComesTo (with_batch (state_of old) a.record_tried.batch a.record_tried.moment) c
     after_tried a c is =
-        ap recovered_by (segment_of-records c (kept.bodies ++ a.tried ∷ []) is) ∙ a.attempt.made
+        ap recovered_by (segment_of-records before_all c (kept.bodies ++ a.tried ∷ []) is) ∙ a.attempt.made
         ∙ ap (λ (n : ℕ). Ok (record { rows = after old.rows a.record_tried.batch; floor = a.record_tried.moment; sequence = n })) a.attempt.sequence

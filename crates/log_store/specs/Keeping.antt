@@ -18,7 +18,7 @@ use Rattle.lives_model.specs.Rows.{Rows}
 use Rattle.lives_model.specs.Means.{Means}
 use Rattle.log_store.specs.Issuing.{AreIssued}
 use Rattle.log_store.specs.Planned.{IsOfCommands}
-use Rattle.log_store.specs.Recover.{Recovered, by_records, recovered_by, recovered, with_batch, with_record}
+use Rattle.log_store.specs.Recover.{Recovered, before_all, nothing, recovered_by, recovered, with_batch, with_record, with_records}
 
 -- the log's only segment
 abbrev pub log_file : FileName
@@ -65,7 +65,7 @@ pub record IsAttempt (bodies : List Bytes) (tried : Bytes) (before : Recovered) 
   pub sequence : r.seq ≡ before.sequence + 1
   pub later : before.floor ≤ r.moment
   pub of : IsOfCommands before.rows r.moment before.sequence r.batch
-  pub made : recovered_by (records_of (bodies ++ tried ∷ [])) ≡ Ok (with_record before r)
+  pub made : recovered_by (records_of before_all (bodies ++ tried ∷ [])) ≡ Ok (with_record before r)
 
 pub record Attempted (disk : Disk) (log : LogState) (bodies : List Bytes) (state : Recovered) : Type 0 where
   pub tried : Bytes
@@ -84,8 +84,8 @@ pub record IsKept (disk : Disk) (store : StoreState) : Type 0 where
   pub bodies : List Bytes
   pub records : List Record
   pub name : store.log.name ≡ log_file
-  pub read : records_of bodies ≡ Ok records
-  pub made : by_records records ≡ Ok (state_of store)
+  pub read : records_of before_all bodies ≡ Ok records
+  pub made : with_records nothing records ≡ state_of store
   pub holds : Holds store.log.unsure disk store.log bodies (state_of store)
 
 -- ---- what the disk comes to

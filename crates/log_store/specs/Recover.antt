@@ -1,9 +1,10 @@
 -- What a log stands for: the rows that its batches come to, one after the other.
-use Rattle.std.specs.Prelude.{ℕ, ◌+◌, ◌==◌, if◌then◌else◌, List, [], ◌∷◌, Result, Ok, Err}
+use Rattle.std.specs.Prelude.{ℕ, ◌+◌, List, [], ◌∷◌, Result, Ok, Err}
 use Rattle.kv_base.specs.Map.{Bytes, empty}
 use Rattle.batch_codec.specs.Batches.{Batch, after}
 use Rattle.batch_codec.specs.declared.record.Record.{Record}
 use Rattle.wal_log.specs.Segments.{segment_of}
+use Rattle.wal_log.specs.declared.segment.Stamp.{Stamp}
 use Rattle.lives_model.specs.Rows.{Rows}
 
 -- the rows, the floor, which is the moment of the last batch, and its sequence
@@ -26,15 +27,14 @@ abbrev pub with_records : Recovered → List Record → Recovered
 with_records before [] = before
 with_records before (r ∷ rs) = with_records (with_record before r) rs
 
--- The sequences begin with 1, else the first record is damage, at the place 0.
-abbrev pub by_records : List Record → Result Recovered ℕ
-by_records [] = Ok nothing
-by_records (r ∷ rs) = if r.seq == 1 then Ok (with_records nothing (r ∷ rs)) else Err 0
+-- the first record of all has the sequence 1, and any moment
+abbrev pub before_all : Stamp
+before_all = record { seq = 0; moment = 0 }
 
 abbrev pub recovered_by : Result (List Record) ℕ → Result Recovered ℕ
-recovered_by (Ok records) = by_records records
+recovered_by (Ok records) = Ok (with_records nothing records)
 recovered_by (Err place) = Err place
 
 -- what the bytes of the log come to, or the place of the first damage
 abbrev pub recovered : Bytes → Result Recovered ℕ
-recovered bytes = recovered_by (segment_of bytes)
+recovered bytes = recovered_by (segment_of before_all bytes)
