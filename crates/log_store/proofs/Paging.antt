@@ -13,7 +13,7 @@ use Rattle.std.specs.Ordering.{nat_cmp, is_lt, ordering_then}
 use Rattle.std.proofs.lemmas.Bool.Decides.{nat_tests}
 use Rattle.kv_base.specs.Inversions.{both_first, both_second}
 use Rattle.kv_base.specs.Map.{Bytes, byte_cmp, exact, same, same_is}
-use Rattle.row_model.specs.declared.row.Row.{Row}
+use Rattle.kv_base.specs.declared.row.Row.{Row}
 use Rattle.row_model.specs.Rows.{at}
 use Rattle.row_model.specs.RowOrder.{is_below, is_ordered, leads}
 use Rattle.row_model.specs.RowLaws.{there_behind, there_cases, there_first}

@@ -11,7 +11,7 @@ use Rattle.std.specs.FinMap.Entries.{find, below_all}
 use Rattle.kv_base.specs.Inversions.{both_first, both_second}
 use Rattle.kv_base.specs.Map.{Bytes, Map, byte_cmp, same, same_is, same_itself, empty, get, remove, get-empty, get-remove, same_map}
 use Rattle.batch_codec.specs.EntryLists.{over, level}
-use Rattle.row_model.specs.declared.row.Row.{Row}
+use Rattle.kv_base.specs.declared.row.Row.{Row}
 use Rattle.row_model.specs.Rows.{at, newer, seen_at}
 use Rattle.row_model.specs.RowMaps.{get_at, value_seen}
 use Rattle.row_model.specs.RowOrder.{row_cmp, leads, is_ordered}

@@ -17,7 +17,7 @@ use Rattle.lives_model.specs.Rows.{Rows}
 use Rattle.lives_model.specs.Steps.{alive_means}
 use Rattle.log_store.specs.Issuing.{issued_after, nothing_is_issued}
 use Rattle.log_store.specs.Planned.{IsOfCommands}
-use Rattle.log_store.specs.Recover.{Recovered, nothing, recovered, recovered_by, with_batch}
+use Rattle.log_store.specs.Recover.{Recovered, before_all, nothing, recovered, recovered_by, with_batch}
 use Rattle.log_store.specs.Keeping.{StoreState, state_of, HoldsKeys, StandsFor, ComesTo, ComesToKeys, KeepsOrMore, KeepsKeysOrMore, IsOpened, HasKeptKeys}
 
 -- ---- a store and its state
@@ -82,7 +82,7 @@ comes_to_keys state moment m keys holds past are bytes comes = record { state = 
 -- an empty log comes to no keys
 pub nothing_is_recovered : recovered [] ≡ Ok nothing
 unfolding records_of records_from
-nothing_is_recovered = ap recovered_by (segment_of-records [] [] records_none)
+nothing_is_recovered = ap recovered_by (segment_of-records before_all [] [] records_none)
 
 pub nothing_comes : (moment : ℕ) → ComesToKeys moment empty []
 nothing_comes moment = record {

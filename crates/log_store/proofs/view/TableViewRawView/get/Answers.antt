@@ -1,6 +1,6 @@
 use Rattle.std.proofs.Common.{◌≡◌, ℕ, List, Option, Some, None, option_and_then, sym, ap, ◌∙◌}
 use Rattle.std.specs.Option.{option_map}
-use Rattle.row_model.specs.declared.row.Row.{Row}
+use Rattle.kv_base.specs.declared.row.Row.{Row}
 use Rattle.row_model.specs.Rows.{at, seen_at}
 use Rattle.row_model.specs.RowRefs.{row_seen}
 use Rattle.row_model.specs.RowMaps.{get_at}
