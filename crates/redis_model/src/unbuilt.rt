@@ -1,9 +1,9 @@
-use std::marker::Model;
-
 ghost use Rattle.std.specs.Prelude.{List};
 ghost use Rattle.std.specs.Coded.{coded_list, coded_ℕ};
 ghost use Rattle.kv_base.specs.Map.{Bytes, Map, code};
 ghost use Rattle.kv_base.specs.declared.row.Row.{Row};
+
+use std::marker::Model;
 
 /// A finite map from raw keys to values that is never built: it has no bytes, and contracts alone read it.
 #[derive(Drop)]

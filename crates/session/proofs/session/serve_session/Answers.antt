@@ -52,7 +52,7 @@ pub loop-taken-preserved : goal.loop-taken-preserved
 loop-taken-preserved g c =
     record {
       run = run_on g.D.Desk.told c.args.desk.now c.loop-taken.desk c.attend.new.desk (g.S.Source.left c.args.source.now) (g.S.Source.left c.loop-taken.source) (g.S.Source.left c.pull.new.source) (g.K.Sink.held c.args.sink.now) (g.K.Sink.held c.loop-taken.sink) (g.K.Sink.held c.attend.new.sink) c.loop-taken.outlet.bytes c.attend.new.outlet.bytes c.loop-taken.reader c.pull.new.reader c.attend.new.reader c.loop-taken.taken c.in-Ok.count _ _ _ _ _ _ _ _ c.loop-taken.invariant.run c.in-Ok.ensures.pulled c.in_default.ensures.served c.in_default.ensures.empty
-      (omega (arith, c.loop-taken-test.true, c.min-room.ensures, c.split_at_mut-piece.ensures.front_len));
+          (omega (arith, c.loop-taken-test.true, c.min-room.ensures, c.split_at_mut-piece.ensures.front_len));
       ended = pulled_on (g.S.Source.left c.loop-taken.source) (g.S.Source.left c.pull.new.source) _ _ _ _ c.loop-taken.reader c.pull.new.reader _ c.in-Ok.count c.in-Ok.ensures.pulled (omega (arith, c.if-count-eq0.false)) ∙ c.loop-taken.invariant.ended;
       source = omega (arith, c.loop-taken.invariant.source, c.in-Ok.ensures.later);
       sink = omega (arith, c.loop-taken.invariant.sink, c.attend.ensures.later);
