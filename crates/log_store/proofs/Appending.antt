@@ -105,7 +105,7 @@ kept_still disk old new rows written log sequence kept =
       records = kept.records;
       name = ap (λ (l : LogState). l.name) log ∙ kept.name;
       read = kept.read;
-      made = kept.made ∙ ap (λ (s : Recovered). Ok s) same;
+      made = kept.made ∙ same;
       holds = subst (λ (s : Recovered). Holds new.log.unsure disk new.log kept.bodies s) same
           (subst (λ (l : LogState). Holds l.unsure disk l kept.bodies (state_of old)) (sym log) kept.holds);
     }
@@ -131,7 +131,7 @@ kept_added before now old new seen done batch moment body past write was is adde
       records = kept.records ++ record_of old.sequence moment batch ∷ [];
       name = ap (λ (l : LogState). l.name) is ∙ name ∙ ap (λ (l : LogState). l.name) was ∙ kept.name;
       read = behind.read;
-      made = behind.made ∙ ap (λ (s : Recovered). Ok s) (sym more);
+      made = behind.made ∙ sym more;
       holds = subst (λ (l : LogState). Holds l.unsure now l (kept.bodies ++ body ∷ []) (state_of new)) (sym is)
           (rests_hold done.unsure now done (kept.bodies ++ body ∷ []) (state_of new) sure (added kept.bodies left.0 left.1));
     }
@@ -177,7 +177,7 @@ kept_left before now old new seen done batch moment body past write was is left 
   records = kept.records;
   name = ap (λ (l : LogState). l.name) is ∙ name ∙ ap (λ (l : LogState). l.name) was ∙ kept.name;
   read = kept.read;
-  made = kept.made ∙ ap (λ (s : Recovered). Ok s) (sym same);
+  made = kept.made ∙ sym same;
   holds = subst (λ (s : Recovered). Holds new.log.unsure now new.log kept.bodies s) (sym same)
       (subst (λ (l : LogState). Holds l.unsure now l kept.bodies (state_of old)) (sym is)
       (still_holds seen.unsure done.unsure before now seen done kept.bodies (state_of old) (record_of old.sequence moment batch) body

@@ -28,17 +28,18 @@ impl<F: Files> LogStore<F> {
         ensures later { F.faults files.old ≤ F.faults files.new }
     {
         let found = read_all(alloc, files, LOG, BEFORE_ALL)?;
-        let table = MemTable::replay(alloc, found.records.as_slice())?;
-        let last = found.last;
+        let records = found.records.as_slice();
+        let table = MemTable::replay(alloc, records)?;
+        let Stamp { seq, moment } = found.last;
         let Ok(log) = Segment::resume(files, FileName::Segment(LOG), found.end) else {
             return Err(StoreFault::Failed);
         };
         Ok(LogStore {
             table,
             log,
-            sequence: last.seq,
-            floor: last.moment,
-            written: last.moment,
+            sequence: seq,
+            floor: moment,
+            written: moment,
             planned: 0,
         })
     }

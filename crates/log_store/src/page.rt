@@ -1,7 +1,7 @@
 ghost use Rattle.std.specs.Prelude.{◌≡◌, ◌++◌, [], IfOk, OnOk, option_map};
 ghost use Rattle.lives_model.specs.LiveRowLists.{pairs};
 ghost use Rattle.lives_model.specs.Page.{page};
-ghost use Rattle.row_model.specs.RowRefs.{row_seen};
+ghost use Rattle.kv_base.specs.RowRefs.{row_seen};
 ghost use Rattle.row_model.specs.Rows.{at as map_at};
 ghost use Rattle.log_store.specs.Walk.{greater, hides, listed, value_shown};
 

@@ -1,5 +1,5 @@
 use Rattle.std.proofs.Common.{◌∙◌, sym, arith}
-use Rattle.row_model.specs.RowRefs.{row_seen}
+use Rattle.kv_base.specs.RowRefs.{row_seen}
 use Rattle.log_store.proofs.Paging.{not_under_at, page_begins, page_ends, page_goes_on, page_is_full, page_is_past}
 use Rattle.log_store.proofs.page.first_rows.Goals as goal
 

@@ -1,5 +1,5 @@
 use Rattle.std.specs.Option.{option_map}
-use Rattle.row_model.specs.RowRefs.{row_seen}
+use Rattle.kv_base.specs.RowRefs.{row_seen}
 use Rattle.log_store.proofs.Paging.{IsRead}
 use Rattle.log_store.proofs.page.first_rows.Given as goal
 
