@@ -217,7 +217,10 @@ module _ {D : Type 0} (told : D → DeskState) (sequence : D → ℕ) (alone : I
             record { rows = u.rows; means = u.means; batch = u.batch; answer = u.answer; until = u.until; plan = u.plan; long = omega (arith, why.0, u.bytes) },
             λ (full : sequence old ≡ last_sequence). why.1 (alone.met new now c planned ∙ stays ∙ full),
           )
-      by_fault fault.Busy why = absurd (subst (λ (m : Option JobKind). IsSome m) none why)
+      by_fault fault.Busy why = nothing_met (subst (λ (m : Option JobKind). IsSome m) none why)
+        where
+          nothing_met : IsSome {T = JobKind} None → ⊥
+          nothing_met met = cc
 
   asks_is : (old new : D) (opening : Opening) (seen : List Place) (asking : Command) (answer : Answer) → (told old).stands opening seen → Asks told old new (ask.Call asking) answer
       → Replied told sequence old new opening (store_at told sequence old opening seen) (ToDesk (ask.Call asking)) answer
@@ -247,7 +250,7 @@ module _ {D : Type 0} (told : D → DeskState) (sequence : D → ℕ) (alone : I
           let e = withheld_is opening.state seen after p.now (due p.now asking) (alone.calls new opening after stands) (alone.free old opening seen stood) l in
           let n = sequence_grows opening.state opening.last seen e.1.added after e.1.grown (sequence old) (sequence new) (alone.batches old opening seen stood) (alone.batches new opening after stands) in
           let stays : sequence new ≡ sequence old = omega (arith, n, e.1.batches) in
-          ((e.0, stays, cause_is old p.mid new first seen after p.now (due p.now asking) f p.reading.faults p.call.met idle planned stands e.0 stays why), e.1)
+          ((e.0, stays, cause_is old p.mid new opening seen after p.now (due p.now asking) f p.reading.faults p.call.met idle planned stands e.0 stays why), e.1)
 
   turned : (old new : D) (opening : Opening) (seen : List Place) (a : Asked) (answer : Answer) → IsOfCalls a → (told old).stands opening seen → TurnAt told old new a answer
       → Replied told sequence old new opening (store_at told sequence old opening seen) a answer
