@@ -1,11 +1,14 @@
--- Rows that are issued, and rows that are not, spelled out.
-use Rattle.std.proofs.Common.{◌≡◌, ℕ, ◌+◌, ◌-◌, ◌^◌, ◌<◌, refl, sym, subst, arith}
-use Rattle.std.specs.Prelude.{Option, Some, IfSome, codes}
-use Rattle.kv_base.specs.Map.{Bytes}
+-- Rows that are issued and rows that are not, and the rows of values, spelled out.
+use Rattle.std.proofs.Common.{◌≡◌, ℕ, ◌+◌, ◌-◌, ◌^◌, ◌<◌, [], ◌∷◌, refl, sym, subst, arith}
+use Rattle.std.specs.Prelude.{Option, Some, IfSome, codes, ℤ, pos, negsuc}
+use Rattle.kv_base.specs.Map.{Bytes, Map, empty, insert}
+use Rattle.kv_base.specs.Fields.{u64}
 use Rattle.kv_base.specs.MetaValues.{ListValue, is_meta_within, meta_text}
 use Rattle.kv_base.specs.MetaValueLaws.{meta_is_read}
 use Rattle.kv_base.specs.declared.row.Row.{Row}
-use Rattle.lives_model.specs.Rows.{Elements, meta_key, row_key}
+use Rattle.redis_model.specs.Value.{ListOf, ZSet}
+use Rattle.lives_model.specs.LifeRows.{value_rows}
+use Rattle.lives_model.specs.Rows.{Elements, Scores, meta_key, row_key}
 use Rattle.lives_model.specs.RowKeys.{row_key_is, row_key_is_no_meta_key}
 use Rattle.lives_model.specs.Plans.{version}
 use Rattle.lives_model.specs.Issued.{IsIssuedMeta, IsIssuedRow}
@@ -58,3 +61,24 @@ later_list_is_not issued =
     let meta = ListValue 0 6144 (2 ^ 63) (2 ^ 63 + 1) in
     let low = subst (λ o. IfSome o (IsIssuedMeta 2)) (meta_is_read meta refl) (issued.meta (codes "l") refl) in
     omega (arith, low.0)
+
+-- ---- the rows of a value
+
+-- a sorted set of the members a, b and c with the scores 3, -1 and 3
+example : Map ℤ
+example = insert (insert (insert empty (codes "a") (pos 3)) (codes "b") (negsuc 0)) (codes "c") (pos 3)
+
+-- stands by score, and then by member
+by_rank : value_rows (ZSet example) 0 Scores ≡
+    (127 ∷ 255 ∷ 255 ∷ 255 ∷ 255 ∷ 255 ∷ 255 ∷ 255 ∷ codes "b", [])
+    ∷ (128 ∷ 0 ∷ 0 ∷ 0 ∷ 0 ∷ 0 ∷ 0 ∷ 3 ∷ codes "a", [])
+    ∷ (128 ∷ 0 ∷ 0 ∷ 0 ∷ 0 ∷ 0 ∷ 0 ∷ 3 ∷ codes "c", [])
+    ∷ []
+unfolding example empty insert u64
+by_rank = refl
+
+-- a list of two items stands by index
+by_place : value_rows (ListOf (codes "x" ∷ codes "y" ∷ [])) (2 ^ 63 - 1) Elements ≡
+    (127 ∷ 255 ∷ 255 ∷ 255 ∷ 255 ∷ 255 ∷ 255 ∷ 255 ∷ [], codes "x") ∷ (128 ∷ 0 ∷ 0 ∷ 0 ∷ 0 ∷ 0 ∷ 0 ∷ 0 ∷ [], codes "y") ∷ []
+unfolding u64
+by_place = refl

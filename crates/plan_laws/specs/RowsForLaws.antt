@@ -19,6 +19,7 @@ use Rattle.redis_model.specs.Keys.{among}
 use Rattle.redis_model.specs.Limits.{IsWholeScore}
 use Rattle.lives_model.specs.Rows.{Side, Elements, Scores, meta_key, row_key}
 pub use Rattle.lives_model.specs.AskedKeys.{name_is_key}
+pub use Rattle.lives_model.specs.LifeRowLaws.{whole_fits}
 use Rattle.lives_model.specs.Means.{row_of, item_row, member_row, is_scored}
 use Rattle.plan_laws.specs.RowsFor.{first_life, indices, subkeys, raws_of}
 
@@ -27,10 +28,6 @@ use Rattle.plan_laws.specs.RowsFor.{first_life, indices, subkeys, raws_of}
 -- what holds of a value if there is one holds of the value that is there
 pub if_some : {X : Type 0} (P : X → Type 0) (o : Option X) (x : X) → o ≡ Some x → IfSome o P → P x
 if_some {X} P o x e h = subst (λ (u : Option X). IfSome u P) e h
-
--- a whole score fits 64 bits
-pub whole_fits : (s : ℤ) → IsWholeScore s → fits s ≡ true
-whole_fits s h = grind (arith, nat_tests, ints)
 
 -- what is never there is none
 pub none_if : {X : Type 0} (o : Option X) → ((x : X) → o ≡ Some x → ⊥) → o ≡ None
