@@ -99,10 +99,10 @@ parts_one c t base i m (d ∷ ds) (p ∷ ps) (q ∷ qs) are too =
     λ j. record { batch = one.batch j; reply = one.reply_is j; until = one.ahead_is j } ∷ rest j
 
 -- so there is one plan of commands, on rows that mean keys
-pub plans_one : (c : Rows) (t base : ℕ) (m : RedisMap) (ds : Cmds) (b other : Batch) (answer reply : Reply) (until ahead : Option ℕ) → IsPlanFor c t base m ds b answer until → IsPlanFor c t base m ds other reply ahead
-    → IsSamePlan b other answer reply until ahead
-plans_one c t base m (One d) b other answer reply until ahead p q = plan_one c t (version base 0) m d b other answer reply until ahead p q
-plans_one c t base m (Many ds) b other answer reply until ahead p q =
+pub plans_one : (c : Rows) (t base : ℕ) (m : RedisMap) (ds : Cmds) (b other : Batch) (answer said : Reply) (until ahead : Option ℕ) → IsPlanFor c t base m ds b answer until → IsPlanFor c t base m ds other said ahead
+    → IsSamePlan b other answer said until ahead
+plans_one c t base m (One d) b other answer said until ahead p q = plan_one c t (version base 0) m d b other answer said until ahead p q
+plans_one c t base m (Many ds) b other answer said until ahead p q =
     let same = parts_one c t base 0 m ds p.parts q.parts p.plans q.plans in
     record {
       batch = p.batch ∙ ap (join_parts _) same ∙ sym q.batch;
@@ -111,7 +111,7 @@ plans_one c t base m (Many ds) b other answer reply until ahead p q =
     }
 
 -- whichever map the rows are taken to mean
-pub plans_same : (c : Rows) (t base : ℕ) (m n : RedisMap) (ds : Cmds) (b other : Batch) (answer reply : Reply) (until ahead : Option ℕ) → Means c t m → Means c t n
-    → IsPlanFor c t base m ds b answer until → IsPlanFor c t base n ds other reply ahead → IsSamePlan b other answer reply until ahead
-plans_same c t base m n ds b other answer reply until ahead means too p q =
-    plans_one c t base m ds b other answer reply until ahead p (subst (λ (o : RedisMap). IsPlanFor c t base o ds other reply ahead) (means_one c t n m too means) q)
+pub plans_same : (c : Rows) (t base : ℕ) (m n : RedisMap) (ds : Cmds) (b other : Batch) (answer said : Reply) (until ahead : Option ℕ) → Means c t m → Means c t n
+    → IsPlanFor c t base m ds b answer until → IsPlanFor c t base n ds other said ahead → IsSamePlan b other answer said until ahead
+plans_same c t base m n ds b other answer said until ahead means too p q =
+    plans_one c t base m ds b other answer said until ahead p (subst (λ (o : RedisMap). IsPlanFor c t base o ds other said ahead) (means_one c t n m too means) q)
