@@ -9,6 +9,3 @@ mod top;
 
 pub use laws::{a_first_run_begins_with_no_keys, a_run_begins_with_what_was_left};
 pub use top::top_script;
-
-#[cfg(test)]
-mod tests;
