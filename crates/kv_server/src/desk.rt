@@ -89,11 +89,11 @@ impl<'a, P: Keeper<F>, F: Files, C: Clock> Desk for LogDesk<'a, P, F, C> {
         requires built { IsTrue (built command) }
         ensures call { TakesCall
             (told_of (parts (P.kept self.old.kept.now) (F.disk self.old.files.now)
-                (F.faults self.old.files.now) (C.readings self.old.clock.now)
-                self.old.last self.old.fault self.old.sequence self.old.body))
+            (F.faults self.old.files.now) (C.readings self.old.clock.now)
+            self.old.last self.old.fault self.old.sequence self.old.body))
             (told_of (parts (P.kept self.new.kept.now) (F.disk self.new.files.now)
-                (F.faults self.new.files.now) (C.readings self.new.clock.now)
-                self.new.last self.new.fault self.new.sequence self.new.body))
+            (F.faults self.new.files.now) (C.readings self.new.clock.now)
+            self.new.last self.new.fault self.new.sequence self.new.body))
             now (ask.Call command) result }
         ensures loans { self.new.kept.ghost_name ∷ self.new.files.ghost_name ∷ self.new.clock.ghost_name ∷ []
             ≡ self.old.kept.ghost_name ∷ self.old.files.ghost_name ∷ self.old.clock.ghost_name ∷ [] }

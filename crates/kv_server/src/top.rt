@@ -48,11 +48,11 @@ pub(crate) fn serve<'a, S: Source, K: Sink, P: Keeper<F>, F: Files, C: Clock>(
     ensures session { IsKept (F.disk files.old) (P.kept kept.old)
         → IsSession result (P.kept kept.old) (P.kept kept.new)
         (outside (F.disk files.old) (F.faults files.old) (C.readings clock.old)
-            (S.left source.old) (S.ended source.old) (S.faults source.old)
-            (K.held sink.old) (K.faults sink.old))
+        (S.left source.old) (S.ended source.old) (S.faults source.old)
+        (K.held sink.old) (K.faults sink.old))
         (outside (F.disk files.new) (F.faults files.new) (C.readings clock.new)
-            (S.left source.new) (S.ended source.new) (S.faults source.new)
-            (K.held sink.new) (K.faults sink.new)) }
+        (S.left source.new) (S.ended source.new) (S.faults source.new)
+        (K.held sink.new) (K.faults sink.new)) }
     ensures caused { IsCaused result
         (S.faults source.old) (S.faults source.new) (K.faults sink.old) (K.faults sink.new) }
     ensures later { F.faults files.old ≤ F.faults files.new }
@@ -108,11 +108,11 @@ fn run<S: Source, K: Sink, F: Files, C: Clock>(
 ) -> u8
     ensures { IsRun result
         (outside (F.disk files.old) (F.faults files.old) (C.readings clock.old)
-            (S.left source.old) (S.ended source.old) (S.faults source.old)
-            (K.held sink.old) (K.faults sink.old))
+        (S.left source.old) (S.ended source.old) (S.faults source.old)
+        (K.held sink.old) (K.faults sink.old))
         (outside (F.disk files.new) (F.faults files.new) (C.readings clock.new)
-            (S.left source.new) (S.ended source.new) (S.faults source.new)
-            (K.held sink.new) (K.faults sink.new)) }
+        (S.left source.new) (S.ended source.new) (S.faults source.new)
+        (K.held sink.new) (K.faults sink.new)) }
 {
     let mut store = match LogStore::open(alloc, files) {
         Ok(store) => store,
@@ -146,11 +146,11 @@ pub fn top_script<S: Source, K: Sink, F: Files, C: Clock>(
     // How it went: the store was not opened, or a session was served from the keys that the log came to.
     ensures run { result ≢ 1 → IsRun result
         (outside (F.disk files.old) (F.faults files.old) (C.readings clock.old)
-            (S.left source.old) (S.ended source.old) (S.faults source.old)
-            (K.held sink.old) (K.faults sink.old))
+        (S.left source.old) (S.ended source.old) (S.faults source.old)
+        (K.held sink.old) (K.faults sink.old))
         (outside (F.disk files.new) (F.faults files.new) (C.readings clock.new)
-            (S.left source.new) (S.ended source.new) (S.faults source.new)
-            (K.held sink.new) (K.faults sink.new)) }
+        (S.left source.new) (S.ended source.new) (S.faults source.new)
+        (K.held sink.new) (K.faults sink.new)) }
 
     // With status 0 the answers to all requests of a told input, or to those up to the first QUIT, were written and
     // nothing else, from the keys that the log came to, and the log comes to the keys at the end, whatever crash comes
@@ -158,16 +158,16 @@ pub fn top_script<S: Source, K: Sink, F: Files, C: Clock>(
     // no sequence is left, where the batch that carries it out is longer than a record, or for want of memory.
     ensures good { result ≡ 0 → Opened (F.disk files.old) (F.faults files.old)
         (IsGood (F.disk files.new) (F.faults files.new)
-            (S.left source.old) (C.readings clock.old) (K.held sink.old) (K.held sink.new)) }
+        (S.left source.old) (C.readings clock.old) (K.held sink.old) (K.held sink.new)) }
     // With status 7 a told input is off the grammar, or ends inside a request, without a QUIT before. The answers to all
     // requests before were written, and behind them `-ERR Protocol error: KIND at PLACE`, as the grammar tells it.
     ensures protocol { result ≡ 7 → Opened (F.disk files.old) (F.faults files.old)
         (IsFaultTold (F.disk files.new) (F.faults files.new)
-            (S.left source.old) (C.readings clock.old) (K.held sink.old) (K.held sink.new)) }
+        (S.left source.old) (C.readings clock.old) (K.held sink.old) (K.held sink.new)) }
     // With status 6 the sink has a front of such answers, and of such a line.
     ensures front { result ≡ 6 → Opened (F.disk files.old) (F.faults files.old)
         (IsFront (F.disk files.new) (F.faults files.new)
-            (S.left source.old) (C.readings clock.old) (K.held sink.old) (K.held sink.new)) }
+        (S.left source.old) (C.readings clock.old) (K.held sink.old) (K.held sink.new)) }
     ensures damaged { result ≡ 3 → IsDamageTold (F.disk files.old)
         (K.held sink.old) (K.held sink.new) (K.faults sink.old) (K.faults sink.new) }
 
