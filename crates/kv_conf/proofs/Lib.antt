@@ -1,2 +1,5 @@
-mod Firsts
-mod Givens
+mod Steps
+mod Options
+mod Telling
+mod Line
+mod Matches

@@ -3,9 +3,8 @@
 //! `specs/CommandLine.antt` has their grammar: what the words behind the program's own name ask for, if anything.
 #![tactic(auto)]
 
-mod asked;
-mod options;
+mod command;
+mod told;
 mod words;
 
-pub use asked::{Asked, Load, judge};
 pub use words::{Words, WordsFault, read_words};

@@ -9,9 +9,10 @@ ghost use Rattle.std.specs.declared.io.ErrorKind.TheVariants.{OutOfMemory};
 ghost use Rattle.kvr_main.specs.Folder.{folder_of as folder_in};
 
 use kv_base::{NoMem, PathText};
-use kv_conf::{Asked, judge};
+use kv_conf::{Words, WordsFault, read_words};
 use kv_real::{RealFiles, StdIn, StdOut, SystemClock};
 use kv_server::top_script;
+use std::alloc::Global;
 use std::process::ExitCode;
 use std::{env, io};
 
@@ -42,12 +43,13 @@ fn status_without_words(kind: io::ErrorKind) -> u8
 }
 
 /// The folder that the words of `script` name. Other words name none, and then no file is called.
-fn folder_of(words: &[String]) -> &str
-    ensures { result.now ≡ folder_in (map (λ word. string_bytes word) words.now) }
+fn folder_of(alloc: Global, words: &[String]) -> Result<PathText, NoMem>
+    ensures { IfOk result (λ folder. folder ≡ folder_in (map (λ word. string_bytes word) words.now)) }
 {
-    match judge(words) {
-        Some(Asked::Script(folder)) => folder,
-        _ => ".",
+    match read_words(alloc, words) {
+        Ok(Words::Script(folder)) => Ok(folder),
+        Ok(_) | Err(WordsFault::Usage) => PathText::new(alloc, "."),
+        Err(WordsFault::NoMem) => Err(NoMem),
     }
 }
 
@@ -55,7 +57,7 @@ fn folder_of(words: &[String]) -> &str
 fn files_of(rt: HostRuntime, words: &[String]) -> Result<RealFiles<HostRuntime>, NoMem>
     ensures { IfOk result (λ files. files.folder ≡ folder_in (map (λ word. string_bytes word) words.now)) }
 {
-    let folder = PathText::new(rt.alloc(), folder_of(words))?;
+    let folder = folder_of(rt.alloc(), words)?;
     Ok(RealFiles::new(rt.alloc(), rt, folder))
 }
 
