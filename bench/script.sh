@@ -1,9 +1,9 @@
 #!/usr/bin/env bash
 # Measures `kvr script`: the time, requests a second and peak memory of inputs that write nothing, beside the time that
 # `cat` takes for the same bytes; a body that arrives a byte at a time; then commands that write, which are on the disk
-# before they are answered, beside a loop that writes and syncs as many bytes, with the system calls of a command; then the
-# opening of a log. Each is also run at half and at a quarter of its size, to show that nothing grows faster than its
-# input.
+# before they are answered, beside a loop that writes and syncs as many bytes, with the system calls of a command; then
+# one command with as many keys as a request has room for; then the opening of a log. Each is also run at half of its
+# size, and most at a quarter, to show that nothing grows faster than its input.
 #
 #     bench/script.sh
 #
@@ -58,6 +58,12 @@ elif kind == "filling":
 elif kind == "dels":
     for i in range(count):
         out.write(request(b"DEL", b"key:%d" % i))
+elif kind == "one_del":
+    # all keys of `filling` in one command, out of order
+    out.write(request(b"DEL", *[b"key:%d" % (i * 7919 % count) for i in range(count)]))
+elif kind == "one_mset":
+    # so many keys in one command, out of order
+    out.write(request(b"MSET", *[word for i in range(count) for word in (b"key:%d" % (i * 7919 % count), b"v")]))
 elif kind == "empty":
     # one request of `count` words of nothing: an unknown command
     out.write(request(*[b""] * count))
@@ -244,6 +250,58 @@ durable "durable SETs with a deadline" expiring 1000
 durable "durable INCRs" incrs 1000
 durable "durable MSETs of 10 keys" msets 1000
 durable "durable DELs" dels 1000 filling
+
+# many NAME KIND COUNT HALF [BEFORE]: one command with so many keys, and one with half as many. Each is the best of three
+# runs, less the time in which the same store is opened and nothing asked. Requests of the kind BEFORE are carried out first.
+many() {
+    for count in "$3" "$4"; do
+        make_input "$2" "$count" > "$work/input-$count"
+        : > "$work/before-$count"
+        if [ $# -gt 4 ]; then make_input "$5" "$count" > "$work/before-$count"; fi
+    done
+    python3 - "$1" "$3" "$4" "$program" "$work" <<'PYTHON'
+import os
+import shutil
+import subprocess
+import sys
+import time
+
+name, full, half, program, work = sys.argv[1], int(sys.argv[2]), int(sys.argv[3]), *sys.argv[4:]
+filled, folder = os.path.join(work, "filled"), os.path.join(work, "store")
+
+
+def call(folder, path):
+    with open(path, "rb") as source, open(os.devnull, "wb") as sink:
+        begin = time.monotonic()
+        status = subprocess.call([program, "script", "--dir", folder], stdin=source, stdout=sink, stderr=subprocess.DEVNULL)
+        took = time.monotonic() - begin
+    if status != 0:
+        sys.exit("%s ended with status %d" % (program, status))
+    return took
+
+
+# How long a run takes over a copy of the filled store.
+def once(path):
+    shutil.rmtree(folder, ignore_errors=True)
+    shutil.copytree(filled, folder)
+    return call(folder, path)
+
+
+def seconds(count):
+    shutil.rmtree(filled, ignore_errors=True)
+    os.mkdir(filled)
+    call(filled, os.path.join(work, "before-%d" % count))
+    opened = min(once(os.devnull) for _ in range(3))
+    return min(once(os.path.join(work, "input-%d" % count)) for _ in range(3)) - opened
+
+
+more, less = seconds(full), seconds(half)
+print("%-34s %9.3f s for %d keys %9.3f s for %d: %.2f times as long" % (name, more, full, less, half, more / less))
+PYTHON
+}
+
+many "one DEL" one_del 65535 32767 filling
+many "one MSET" one_mset 32767 16383
 
 # opening COUNT: a log of so many small SETs is opened, and nothing asked
 opening() {

@@ -9,15 +9,16 @@ use Rattle.std.specs.declared.cmp.Ordering.TheVariants.{Less, Equal, Greater}
 use Rattle.std.specs.Ordering.{is_lt, is_eq, ordering_reverse}
 use Rattle.std.specs.Cmp.Lexicographic.{nat_list_cmp_total}
 use Rattle.std.specs.FinMap.Entries.{below_all, is_sorted}
-use Rattle.kv_base.specs.Inversions.{both_first, both_second}
+use Rattle.kv_base.specs.InversionLaws.{both_first, both_second}
 use Rattle.kv_base.specs.Map.{Bytes, byte_cmp, same, same_is, Map, get, insert, insert_all, from_list, empty, get-insert, same_map}
 use Rattle.batch_codec.specs.Batches as batches
 use Rattle.batch_codec.specs.Batches.{Batch, is_row, are_rows}
 use Rattle.batch_codec.specs.declared.slot.Slot.TheVariants.{Del}
 use Rattle.batch_codec.specs.declared.slot.Entry.{Entry}
 use Rattle.batch_codec.specs.Slots.{slot_value, pair, pairs, batch_of, raw_cmp, lasts_from, lasts}
-use Rattle.batch_codec.specs.EntryLists.{under, lt, both, entries_from_list, all_put}
-use Rattle.batch_codec.specs.BatchMaps.{IsKept}
+use Rattle.batch_codec.specs.EntryListLaws.{under, entries_from_list, all_put}
+use Rattle.kv_base.specs.TestLaws.{both, is_less as lt}
+use Rattle.batch_codec.specs.BatchMaps.{AreSortedEntries}
 
 -- ---- what a map has at a raw key is what the entries of that raw key say
 
@@ -123,7 +124,7 @@ sorted_lasts (e ∷ es) h = sorted_lasts_from e es h
 
 -- ---- raw keys and values stay on their grammar
 
-rows_inserted : (b : Batch) (es : List batches.Entry) → are_rows b.entries ≡ true → are_rows es ≡ true → are_rows (insert_all b es).entries ≡ true
+rows_inserted : (b : Batch) (es : List batches.BatchEntry) → are_rows b.entries ≡ true → are_rows es ≡ true → are_rows (insert_all b es).entries ≡ true
 unfolding insert
 rows_inserted b [] h more = h
 rows_inserted b (e ∷ es) h more =
@@ -134,7 +135,7 @@ rows_inserted b (e ∷ es) h more =
 pub same_batch : (old sorted : List Entry) → IsStable raw_cmp old sorted → batch_of (lasts sorted) ≡ batch_of old
 same_batch old sorted stable = lasts_batch sorted ∙ stable_batch old sorted stable
 
-pub stands_in_order : (old sorted : List Entry) → IsTrue (are_rows (pairs old)) → IsStable raw_cmp old sorted → IsSorted raw_cmp sorted → IsKept (lasts sorted)
+pub stands_in_order : (old sorted : List Entry) → IsTrue (are_rows (pairs old)) → IsStable raw_cmp old sorted → IsSorted raw_cmp sorted → AreSortedEntries (lasts sorted)
 unfolding empty
 stands_in_order old sorted rows stable up =
     let order = sorted_lasts sorted up in

@@ -1,9 +1,9 @@
 -- Entries that are read one after another into a batch.
 use Rattle.std.proofs.Common.{◌≡◌, ℕ, suc, length, arith, List, [], ◌∷◌, refl, ap, ◌∙◌, true, false, cond, Option, Some, None, option_map, option_and_then}
 use Rattle.std.specs.Prelude.{◌==◌}
-use Rattle.kv_base.specs.Inversions.{number_is}
+use Rattle.kv_base.specs.InversionLaws.{number_is}
 use Rattle.kv_base.specs.Map.{Bytes, insert, insert_all}
-use Rattle.batch_codec.specs.Batches.{Batch, Entry}
+use Rattle.batch_codec.specs.Batches.{Batch, BatchEntry}
 use Rattle.batch_codec.specs.Bodies.{read_entry, is_next, read_entries}
 use Rattle.batch_codec.specs.BodyLaws.{step, read_more}
 
@@ -11,11 +11,11 @@ use Rattle.batch_codec.specs.BodyLaws.{step, read_more}
 abbrev pub onto : Batch → ℕ → Option Bytes → Bytes → Option Batch
 onto batch left last bytes = option_map (insert_all batch) (read_entries left last bytes)
 
-through : (batch : Batch) (e : Entry) (o : Option (List Entry)) → option_map (insert_all batch) (option_map (λ es. e ∷ es) o) ≡ option_map (insert_all (insert batch e.0 e.1)) o
+through : (batch : Batch) (e : BatchEntry) (o : Option (List BatchEntry)) → option_map (insert_all batch) (option_map (λ es. e ∷ es) o) ≡ option_map (insert_all (insert batch e.0 e.1)) o
 through batch e None = refl
 through batch e (Some es) = refl
 
-pub one_more : (batch : Batch) (left n : ℕ) (last : Option Bytes) (bytes behind : Bytes) (e : Entry) → left ≡ suc n → read_entry bytes ≡ Some (e, behind) → is_next last e ≡ true
+pub one_more : (batch : Batch) (left n : ℕ) (last : Option Bytes) (bytes behind : Bytes) (e : BatchEntry) → left ≡ suc n → read_entry bytes ≡ Some (e, behind) → is_next last e ≡ true
     → onto batch left last bytes ≡ onto (insert batch e.0 e.1) n (Some e.0) behind
 one_more batch left n last bytes behind e counted is next =
     ap (λ (k : ℕ). option_map (insert_all batch) (read_entries k last bytes)) counted
@@ -27,7 +27,7 @@ no_entry batch left n last bytes counted is =
     ap (λ (k : ℕ). option_map (insert_all batch) (read_entries k last bytes)) counted
     ∙ ap (λ o. option_map (insert_all batch) o) (read_more n last bytes ∙ ap (λ o. option_and_then (step n last) o) is)
 
-pub not_next : (batch : Batch) (left n : ℕ) (last : Option Bytes) (bytes behind : Bytes) (e : Entry) → left ≡ suc n → read_entry bytes ≡ Some (e, behind) → is_next last e ≡ false → onto batch left last bytes ≡ None
+pub not_next : (batch : Batch) (left n : ℕ) (last : Option Bytes) (bytes behind : Bytes) (e : BatchEntry) → left ≡ suc n → read_entry bytes ≡ Some (e, behind) → is_next last e ≡ false → onto batch left last bytes ≡ None
 not_next batch left n last bytes behind e counted is next =
     ap (λ (k : ℕ). option_map (insert_all batch) (read_entries k last bytes)) counted
     ∙ ap (λ o. option_map (insert_all batch) o) (read_more n last bytes ∙ ap (λ o. option_and_then (step n last) o) is ∙ ap (λ b. cond b (option_map (λ es. e ∷ es) (read_entries n (Some e.0) behind)) None) next)

@@ -5,7 +5,7 @@ use Rattle.std.specs.Ordering.{is_eq}
 use Rattle.std.specs.FinMap.Entries.{find, is_sorted, below_all}
 use Rattle.kv_base.specs.Map.{Bytes, byte_cmp, same, same_is, Map, get, insert, get-insert, get-remove}
 use Rattle.batch_codec.specs.Batches.{Batch, written, after, joined, over}
-use Rattle.batch_codec.specs.EntryLists.{first, second, less}
+use Rattle.kv_base.specs.TestLaws.{first, second, less}
 
 find_below : {X : Type 0} (q : Bytes) (es : List (Bytes × X)) → T (below_all byte_cmp q es) → find byte_cmp q es ≡ None
 find_below q [] h = refl

@@ -6,18 +6,18 @@ use Rattle.kv_base.specs.RawKeys.{is_raw_text}
 use Rattle.kv_base.specs.MetaValues.{is_value_text}
 
 -- a raw key with the value that is put there, or with None for a delete
-abbrev pub Entry : Type 0
-Entry = Bytes × Option Bytes
+abbrev pub BatchEntry : Type 0
+BatchEntry = Bytes × Option Bytes
 
 abbrev pub Batch : Type 0
 Batch = Map (Option Bytes)
 
 -- raw key and value are on the grammar
-abbrev pub is_row : Entry → Bool
+abbrev pub is_row : BatchEntry → Bool
 is_row (raw, Some value) = is_value_text raw value
 is_row (raw, None) = is_raw_text raw
 
-abbrev pub are_rows : List Entry → Bool
+abbrev pub are_rows : List BatchEntry → Bool
 are_rows = list_all is_row
 
 abbrev pub written : Map Bytes → Bytes → Option Bytes → Map Bytes

@@ -11,15 +11,16 @@ use Rattle.kv_base.specs.Map.{Bytes, byte_cmp, size, from_list}
 use Rattle.kv_base.specs.Fields.{u32, u64, text, read_u32, read_u64, read_text}
 use Rattle.kv_base.specs.FieldLaws.{u32_is_read, u64_is_read, text_is_read, only_u32_is_read, only_u64_is_read, only_text_is_read, length-u32, length-u64, length-text}
 use Rattle.kv_base.specs.MetaValues.{is_empty}
-use Rattle.kv_base.specs.Inversions.{same_some, and_then_is, map_is, if_is, both_first, both_second, number_is}
-use Rattle.batch_codec.specs.Batches.{Entry, Batch, is_row, are_rows}
-use Rattle.batch_codec.specs.EntryLists.{entries_from_list, from_its_entries}
+use Rattle.kv_base.specs.InversionLaws.{same_some, and_then_is, map_is, if_is, both_first, both_second, number_is}
+use Rattle.batch_codec.specs.Batches.{BatchEntry, Batch, is_row, are_rows}
+use Rattle.batch_codec.specs.EntryListLaws.{entries_from_list, from_its_entries}
 use Rattle.batch_codec.specs.declared.record.Record.{Record}
 use Rattle.batch_codec.specs.Bodies.{entry_text, entries_text, body_of, is_seq, is_moment, value_behind, deleted, read_entry, is_above, is_next, read_entries, Head, read_head, is_head, record_of, entries_behind, read_body}
+use Rattle.kv_base.specs.TestLaws.{less_is as less}
 
 -- ---- entries
 
-entry_is_read : (e : Entry) (bytes : Bytes) → length (entry_text e) < 2 ^ 32 → read_entry (entry_text e ++ bytes) ≡ Some (e, bytes)
+entry_is_read : (e : BatchEntry) (bytes : Bytes) → length (entry_text e) < 2 ^ 32 → read_entry (entry_text e ++ bytes) ≡ Some (e, bytes)
 unfolding read_entry
 entry_is_read (raw, Some value) bytes short =
     let a = length-append (text raw) (text value) in
@@ -32,7 +33,7 @@ entry_is_read (raw, None) bytes short =
     let b = length-text raw in
     ap (λ r. option_map deleted r) (text_is_read raw (omega (arith, short, b)) bytes)
 
-by_mark : (mark : ℕ) (bytes : Bytes) (p : Entry × Bytes) (put del : Bool) → (mark == 1) ≡ put → (mark == 0) ≡ del
+by_mark : (mark : ℕ) (bytes : Bytes) (p : BatchEntry × Bytes) (put del : Bool) → (mark == 1) ≡ put → (mark == 0) ≡ del
     → cond put (option_and_then value_behind (read_text bytes)) (cond del (option_map deleted (read_text bytes)) None) ≡ Some p → mark ∷ bytes ≡ entry_text p.0 ++ p.1
 by_mark mark bytes p true del put_is del_is h =
     let raw = and_then_is value_behind (read_text bytes) p h in
@@ -40,21 +41,21 @@ by_mark mark bytes p true del put_is del_is h =
     let r = (only_text_is_read bytes raw.0.0 raw.0.1 raw.1).0 in
     let v = (only_text_is_read raw.0.1 value.0.0 value.0.1 value.1).0 in
     let whole : bytes ≡ (text raw.0.0 ++ text value.0.0) ++ value.0.1 = r ∙ ap (λ b. text raw.0.0 ++ b) v ∙ sym (append_assoc (text raw.0.0) (text value.0.0) value.0.1) in
-    subst (λ (q : Entry × Bytes). mark ∷ bytes ≡ entry_text q.0 ++ q.1) value.2 (λ i. number_is mark 1 put_is i ∷ whole i)
+    subst (λ (q : BatchEntry × Bytes). mark ∷ bytes ≡ entry_text q.0 ++ q.1) value.2 (λ i. number_is mark 1 put_is i ∷ whole i)
 by_mark mark bytes p false true put_is del_is h =
     let raw = map_is deleted (read_text bytes) p h in
     let r = (only_text_is_read bytes raw.0.0 raw.0.1 raw.1).0 in
-    subst (λ (q : Entry × Bytes). mark ∷ bytes ≡ entry_text q.0 ++ q.1) raw.2 (λ i. number_is mark 0 del_is i ∷ r i)
+    subst (λ (q : BatchEntry × Bytes). mark ∷ bytes ≡ entry_text q.0 ++ q.1) raw.2 (λ i. number_is mark 0 del_is i ∷ r i)
 by_mark mark bytes p false false put_is del_is h = absurd (cc)
 
-only_entry_is_read : (bytes : Bytes) (p : Entry × Bytes) → read_entry bytes ≡ Some p → bytes ≡ entry_text p.0 ++ p.1
+only_entry_is_read : (bytes : Bytes) (p : BatchEntry × Bytes) → read_entry bytes ≡ Some p → bytes ≡ entry_text p.0 ++ p.1
 unfolding read_entry
 only_entry_is_read [] p h = absurd (cc)
 only_entry_is_read (mark ∷ bytes) p h = by_mark mark bytes p _ _ refl refl h
 
 -- ---- each above the one before it, and all in order
 
-abbrev pub rise : Option Bytes → List Entry → Bool
+abbrev pub rise : Option Bytes → List BatchEntry → Bool
 rise last [] = true
 rise last (e ∷ es) = is_above last e.0 && rise (Some e.0) es
 
@@ -68,47 +69,42 @@ holds b h = subst T (sym h) tt
 all : (a b : Bool) → a ≡ true → b ≡ true → (a && b) ≡ true
 all a b e f = rw (e, f) refl
 
-less : (o : Ordering) → is_lt o ≡ true → o ≡ Less
-less Less e = refl
-less Equal e = absurd (cc)
-less Greater e = absurd (cc)
-
-still_below : (a b : Bytes) (es : List Entry) → byte_cmp a b ≡ Less → below_all byte_cmp b es ≡ true → below_all byte_cmp a es ≡ true
+still_below : (a b : Bytes) (es : List BatchEntry) → byte_cmp a b ≡ Less → below_all byte_cmp b es ≡ true → below_all byte_cmp a es ≡ true
 still_below a b [] h below = refl
 still_below a b (e ∷ es) h below =
     let next = less (byte_cmp b e.0) (both_first (is_lt (byte_cmp b e.0)) (below_all byte_cmp b es) below) in
     all (is_lt (byte_cmp a e.0)) (below_all byte_cmp a es) (ap is_lt (nat_list_cmp_total.trans a b e.0 h next)) (still_below a b es h (both_second (is_lt (byte_cmp b e.0)) (below_all byte_cmp b es) below))
 
-rise_below : (k : Bytes) (es : List Entry) → rise (Some k) es ≡ true → below_all byte_cmp k es ≡ true
+rise_below : (k : Bytes) (es : List BatchEntry) → rise (Some k) es ≡ true → below_all byte_cmp k es ≡ true
 rise_below k [] up = refl
 rise_below k (e ∷ es) up =
     let next = both_first (is_lt (byte_cmp k e.0)) (rise (Some e.0) es) up in
     all (is_lt (byte_cmp k e.0)) (below_all byte_cmp k es) next (still_below k e.0 es (less (byte_cmp k e.0) next) (rise_below e.0 es (both_second (is_lt (byte_cmp k e.0)) (rise (Some e.0) es) up)))
 
-rise_sorted : (last : Option Bytes) (es : List Entry) → rise last es ≡ true → is_sorted byte_cmp es ≡ true
+rise_sorted : (last : Option Bytes) (es : List BatchEntry) → rise last es ≡ true → is_sorted byte_cmp es ≡ true
 rise_sorted last [] up = refl
 rise_sorted last (e ∷ es) up =
     let rest = both_second (is_above last e.0) (rise (Some e.0) es) up in
     all (below_all byte_cmp e.0 es) (is_sorted byte_cmp es) (rise_below e.0 es rest) (rise_sorted (Some e.0) es rest)
 
-sorted_rise : (last : Option Bytes) (es : List Entry) → is_sorted byte_cmp es ≡ true → ((e : Entry) (rest : List Entry) → es ≡ e ∷ rest → is_above last e.0 ≡ true) → rise last es ≡ true
+sorted_rise : (last : Option Bytes) (es : List BatchEntry) → is_sorted byte_cmp es ≡ true → ((e : BatchEntry) (rest : List BatchEntry) → es ≡ e ∷ rest → is_above last e.0 ≡ true) → rise last es ≡ true
 sorted_rise last [] up first = refl
 sorted_rise last (e ∷ es) up first =
     let below = both_first (below_all byte_cmp e.0 es) (is_sorted byte_cmp es) up in
     all (is_above last e.0) (rise (Some e.0) es) (first e es refl)
     (sorted_rise (Some e.0) es (both_second (below_all byte_cmp e.0 es) (is_sorted byte_cmp es) up)
-    (λ f rest is. both_first (is_lt (byte_cmp e.0 f.0)) (below_all byte_cmp e.0 rest) (subst (λ (l : List Entry). below_all byte_cmp e.0 l ≡ true) is below)))
+    (λ f rest is. both_first (is_lt (byte_cmp e.0 f.0)) (below_all byte_cmp e.0 rest) (subst (λ (l : List BatchEntry). below_all byte_cmp e.0 l ≡ true) is below)))
 
 -- ---- so many entries
 
-abbrev pub step : ℕ → Option Bytes → Entry × Bytes → Option (List Entry)
+abbrev pub step : ℕ → Option Bytes → BatchEntry × Bytes → Option (List BatchEntry)
 step n last front = if is_next last front.0 then option_map (λ entries. front.0 ∷ entries) (read_entries n (Some front.0.0) front.1) else None
 
 pub read_more : (n : ℕ) (last : Option Bytes) (bytes : Bytes) → read_entries (suc n) last bytes ≡ option_and_then (step n last) (read_entry bytes)
 unfolding read_entries
 read_more n last bytes = refl
 
-entries_are_read : (es : List Entry) (last : Option Bytes) → length (entries_text es) < 2 ^ 32 → rise last es ≡ true → are_rows es ≡ true → read_entries (length es) last (entries_text es) ≡ Some es
+entries_are_read : (es : List BatchEntry) (last : Option Bytes) → length (entries_text es) < 2 ^ 32 → rise last es ≡ true → are_rows es ≡ true → read_entries (length es) last (entries_text es) ≡ Some es
 unfolding read_entries
 entries_are_read [] last short up rows = refl
 entries_are_read (e ∷ es) last short up rows =
@@ -118,7 +114,7 @@ entries_are_read (e ∷ es) last short up rows =
     ∙ ap (λ b. cond b (option_map (λ entries. e ∷ entries) (read_entries (length es) (Some e.0) (entries_text es))) None) next
     ∙ ap (λ r. option_map (λ entries. e ∷ entries) r) (entries_are_read es (Some e.0) (omega (arith, short, parts)) (both_second (is_above last e.0) (rise (Some e.0) es) up) (both_second (is_row e) (are_rows es) rows))
 
-pub record AreEntriesOf (n : ℕ) (last : Option Bytes) (bytes : Bytes) (es : List Entry) : Type 0 where
+pub record AreEntriesOf (n : ℕ) (last : Option Bytes) (bytes : Bytes) (es : List BatchEntry) : Type 0 where
   pub spelled : bytes ≡ entries_text es
   pub count : length es ≡ n
   pub up : rise last es ≡ true
@@ -128,18 +124,18 @@ empty_is : (bytes : Bytes) → is_empty bytes ≡ true → bytes ≡ []
 empty_is [] e = refl
 empty_is (b ∷ bytes) e = absurd (cc)
 
-only_entries_are_read : (n : ℕ) (last : Option Bytes) (bytes : Bytes) (es : List Entry) → read_entries n last bytes ≡ Some es → AreEntriesOf n last bytes es
+only_entries_are_read : (n : ℕ) (last : Option Bytes) (bytes : Bytes) (es : List BatchEntry) → read_entries n last bytes ≡ Some es → AreEntriesOf n last bytes es
 unfolding read_entries
 only_entries_are_read zero last bytes es h =
     let end = if_is (is_empty bytes) (Some []) es h in
-    subst (λ (l : List Entry). AreEntriesOf zero last bytes l) (same_some [] es end.1) (record { spelled = empty_is bytes end.0; count = refl; up = refl; rows = refl })
+    subst (λ (l : List BatchEntry). AreEntriesOf zero last bytes l) (same_some [] es end.1) (record { spelled = empty_is bytes end.0; count = refl; up = refl; rows = refl })
 only_entries_are_read (suc n) last bytes es h =
     let front = and_then_is (step n last) (read_entry bytes) es h in
     let e = front.0.0 in
     let next = if_is (is_next last e) (option_map (λ entries. e ∷ entries) (read_entries n (Some e.0) front.0.1)) es front.2 in
-    let rest = map_is (λ (l : List Entry). e ∷ l) (read_entries n (Some e.0) front.0.1) es next.1 in
+    let rest = map_is (λ (l : List BatchEntry). e ∷ l) (read_entries n (Some e.0) front.0.1) es next.1 in
     let more = only_entries_are_read n (Some e.0) front.0.1 rest.0 rest.1 in
-    subst (λ (l : List Entry). AreEntriesOf (suc n) last bytes l) rest.2 (record {
+    subst (λ (l : List BatchEntry). AreEntriesOf (suc n) last bytes l) rest.2 (record {
       spelled = only_entry_is_read bytes front.0 front.1 ∙ ap (λ b. entry_text e ++ b) more.spelled;
       count = ap suc more.count;
       up = all (is_above last e.0) (rise (Some e.0) rest.0) (both_first (is_above last e.0) (is_row e) next.0) more.up;
@@ -191,11 +187,11 @@ low_moment : (moment : ℕ) → is_moment moment ≡ true → moment < 2 ^ 64
 low_moment moment h = grind (arith, nat_tests)
 
 -- each entry has a byte at least
-pub many : (es : List Entry) → length es ≤ length (entries_text es)
+pub many : (es : List BatchEntry) → length es ≤ length (entries_text es)
 many [] = omega arith
 many (e ∷ es) = let rest = many es in let parts = length-append (entry_text e) (entries_text es) in let some = one e in omega (arith, rest, parts, some)
   where
-    one : (e : Entry) → 1 ≤ length (entry_text e)
+    one : (e : BatchEntry) → 1 ≤ length (entry_text e)
     one (raw, Some value) = omega arith
     one (raw, None) = omega arith
 

@@ -1,8 +1,9 @@
 pub mod BatchLaws
 pub mod BatchMaps
+pub mod BatchMapLaws
 pub mod Batches
 pub mod Bodies
 pub mod BodyLaws
-pub mod EntryLists
-pub mod EntryTexts
+pub mod EntryListLaws
+pub mod EntryTextLaws
 pub mod Slots

@@ -11,10 +11,10 @@ abbrev pub slot_value : Slot → Option Bytes
 slot_value (Put value) = Some value
 slot_value Del = None
 
-abbrev pub pair : Entry → batches.Entry
+abbrev pub pair : Entry → batches.BatchEntry
 pair entry = (entry.raw, slot_value entry.slot)
 
-abbrev pub pairs : List Entry → List batches.Entry
+abbrev pub pairs : List Entry → List batches.BatchEntry
 pairs = map pair
 
 abbrev pub batch_of : List Entry → batches.Batch

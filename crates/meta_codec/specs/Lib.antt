@@ -1,3 +1,2 @@
-pub mod DeadlineLaws
-pub mod MetaKeys
+pub mod MetaKeyLaws
 pub mod Metas

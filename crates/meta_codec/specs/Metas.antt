@@ -1,14 +1,6 @@
 -- What metadata says.
 use Rattle.std.specs.Prelude.{ℕ, ◌-◌, nat_lt, nat_le, Bool, ◌&&◌, Option, Some, None}
 use Rattle.kv_base.specs.MetaValues.{MetaValue, StringValue, LifeValue, ListValue}
-use Rattle.meta_codec.specs.declared.meta.Meta.{Meta}
-use Rattle.meta_codec.specs.declared.meta.Meta.TheVariants.{Str, Life, List}
-
--- the metadata that a value of code stands for
-abbrev pub meta_value : Meta → MetaValue
-meta_value (Str expire payload) = StringValue expire payload
-meta_value (Life kind expire version size) = LifeValue kind expire version size
-meta_value (List expire version head tail) = ListValue expire version head tail
 
 -- the deadline, or 0 for none
 abbrev pub expire_of : MetaValue → ℕ

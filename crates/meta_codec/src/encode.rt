@@ -5,18 +5,16 @@ ghost use Rattle.kv_base.specs.Fields.{u64 as number};
 ghost use Rattle.kv_base.specs.MetaValues.{LifeValue, ListValue, StringValue, is_meta_within, kind_flags, meta_text, read_meta};
 ghost use Rattle.kv_base.specs.RawKeys.{MetaKey, is_raw_text, raw_text};
 ghost use Rattle.kv_base.specs.RowRefs.{meta_seen};
-ghost use Rattle.meta_codec.specs.Metas.{meta_value};
 
-use crate::meta::Meta;
 use kv_base::flags::{HASH, LIST, SET, STRING, ZSET};
 use kv_base::{Blob, Key, Kind, MAX_VALUE, MetaRef, NoMem};
 use std::alloc::Global;
 
-/// The bytes that all metadata begins with: the flags and the deadline.
-pub const HEAD_LEN: usize = 9;
+/// The length of what all metadata begins with: the flags and the deadline.
+const HEAD_LEN: usize = 9;
 
 /// The raw key of a key's metadata: the byte `m`, the byte 0, which is the length of an empty namespace, and the key.
-#[tactic(auto, using(crate::specs::MetaKeys::meta_key_is_raw), unfolding(kv_base::specs::RawKeys::raw_text))]
+#[tactic(auto, using(crate::specs::MetaKeyLaws::meta_key_is_raw), unfolding(kv_base::specs::RawKeys::raw_text))]
 pub fn meta_key(alloc: Global, key: &Key) -> Result<Blob, NoMem>
     ensures bytes { IfOk result (λ raw. raw ≡ raw_text (MetaKey key.now)) }
     ensures raw_key { IfOk result (λ raw. IsTrue (is_raw_text raw)) }
@@ -29,15 +27,6 @@ pub fn meta_key(alloc: Global, key: &Key) -> Result<Blob, NoMem>
 }
 
 /// The bytes of metadata, from which `decode_meta` reads it back.
-pub fn encode_meta(alloc: Global, meta: &Meta) -> Result<Blob, NoMem>
-    requires { IsTrue (is_meta_within (meta_value meta.now)) }
-    ensures bytes { IfOk result (λ value. value ≡ meta_text (meta_value meta.now)) }
-    ensures read { IfOk result (λ value. read_meta value ≡ Some (meta_value meta.now)) }
-{
-    encode_ref(alloc, meta.lent())
-}
-
-/// The bytes of metadata whose payload is lent, from which `decode_meta` reads it back.
 ///
 /// Metadata is one of these, where numbers have eight bytes, their high byte first:
 /// - of a string: the byte 129, the deadline and the payload;
@@ -45,7 +34,7 @@ pub fn encode_meta(alloc: Global, meta: &Meta) -> Result<Blob, NoMem>
 /// - of a list: the byte 131, the deadline, the version, the size, the head and the tail, where the size is the tail
 ///   less the head.
 #[tactic(auto, using(kv_base::specs::MetaValueLaws::meta_is_read))]
-pub fn encode_ref(alloc: Global, meta: MetaRef<'_>) -> Result<Blob, NoMem>
+pub fn encode_meta(alloc: Global, meta: MetaRef<'_>) -> Result<Blob, NoMem>
     requires { IsTrue (is_meta_within (meta_seen meta)) }
     ensures bytes { IfOk result (λ value. value ≡ meta_text (meta_seen meta.entry)) }
     ensures read { IfOk result (λ value. read_meta value ≡ Some (meta_seen meta.entry)) }
@@ -121,7 +110,7 @@ fn kind_flags(kind: Kind) -> u8
 
 /// Flags and a deadline, with room for so many bytes behind them.
 #[tactic(auto, unfolding(kv_base::specs::Fields::u64))]
-pub fn begin(alloc: Global, flags: u8, expire: u64, room: usize) -> Result<Vec<u8>, NoMem>
+fn begin(alloc: Global, flags: u8, expire: u64, room: usize) -> Result<Vec<u8>, NoMem>
     requires { room ≤ MAX_VALUE }
     ensures bytes { IfOk result (λ value. value.items ≡ flags ∷ number expire) }
     ensures room { IfOk result (λ value. HEAD_LEN + room ≤ vec_capacity value) }
@@ -140,63 +129,4 @@ fn add_numbers(value: &mut Vec<u8>, first: u64, second: u64) -> Result<(), NoMem
     value.extend_from_slice(&first.to_be_bytes())?;
     value.extend_from_slice(&second.to_be_bytes())?;
     Ok(())
-}
-
-#[cfg(test)]
-mod tests {
-    use super::*;
-    use std::test::Fail;
-
-    #[test]
-    #[tactic(auto, unfolding(kv_base::specs::MetaValues::is_meta_within))]
-    fn encodes_metadata(rt: HostRuntime) -> Result<(), Fail> {
-        let string = Meta::Str {
-            expire: 0,
-            payload: Blob::copy(rt.alloc(), b"1")?,
-        };
-        assert_eq!(rt;
-            encode_meta(rt.alloc(), &string)?.bytes(),
-            b"\x81\x00\x00\x00\x00\x00\x00\x00\x001".as_slice()
-        );
-        let kinds = [(Kind::Hash, 0x82), (Kind::Set, 0x84), (Kind::ZSet, 0x85)];
-        for (kind, flags) in kinds {
-            let life = Meta::Life {
-                kind,
-                expire: 1 << 62,
-                version: 2048,
-                size: 3,
-            };
-            let value = encode_meta(rt.alloc(), &life)?;
-            assert_eq!(rt; value.bytes().first(), Some(&flags));
-            assert_eq!(rt;
-                value.bytes().get(1..),
-                Some(
-                    b"\x40\x00\x00\x00\x00\x00\x00\x00\x00\x00\x00\x00\x00\x00\x08\x00\x00\x00\x00\x00\x00\x00\x00\x03".as_slice()
-                )
-            );
-        }
-        let list = Meta::List {
-            expire: 0,
-            version: 2048,
-            head: (1 << 63) - 1,
-            tail: (1 << 63) + 1,
-        };
-        assert_eq!(rt;
-            encode_meta(rt.alloc(), &list)?.bytes(),
-            b"\x83\x00\x00\x00\x00\x00\x00\x00\x00\x00\x00\x00\x00\x00\x00\x08\x00\
-            \x00\x00\x00\x00\x00\x00\x00\x02\x7F\xFF\xFF\xFF\xFF\xFF\xFF\xFF\x80\x00\x00\x00\x00\x00\x00\x01"
-                .as_slice()
-        );
-        Ok(())
-    }
-
-    #[test]
-    fn metadata_has_its_raw_key(rt: HostRuntime) -> Result<(), Fail> {
-        let key = Key::new(Blob::copy(rt.alloc(), b"k")?)?;
-        assert_eq!(rt;
-            meta_key(rt.alloc(), &key)?.bytes(),
-            b"\x6D\x00k".as_slice()
-        );
-        Ok(())
-    }
 }

@@ -5,13 +5,9 @@
 //! of metadata (`specs/MetaValues.antt`) and its laws; `specs/Metas.antt` has what metadata says.
 #![tactic(auto)]
 
-mod deadline;
 mod encode;
-mod meta;
 mod parts;
 
-pub use deadline::{is_expired, write_deadline};
-pub use encode::{encode_meta, encode_ref, meta_key};
+pub use encode::{encode_meta, meta_key};
 pub use kv_base::{Kind, MetaRef, decode_meta};
-pub use meta::Meta;
-pub use parts::{expire_of, size_of, version_of};
+pub use parts::{expire_of, is_expired, size_of, version_of, with_expire};

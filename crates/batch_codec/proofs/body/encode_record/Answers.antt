@@ -1,7 +1,7 @@
 use Rattle.std.proofs.Common.{◌≡◌, ◌≤◌, ℕ, List, [], ◌++◌, length, IfOk, ap, sym, ◌∙◌, subst, append_assoc, arith}
 use Rattle.kv_base.specs.Map.{Bytes, size}
 use Rattle.kv_base.specs.Fields.{u32, u64}
-use Rattle.batch_codec.specs.Batches.{Batch, Entry}
+use Rattle.batch_codec.specs.Batches.{Batch, BatchEntry}
 use Rattle.batch_codec.specs.BodyLaws.{length-body, many}
 use Rattle.batch_codec.specs.Bodies.{body_of, entries_text}
 use Rattle.batch_codec.proofs.body.encode_record.Goals as goal
@@ -19,7 +19,7 @@ write_entries-requires c =
     let same = ap (λ es. length (entries_text es)) c.entries.ensures.all in
     omega (arith, whole, same, c.requires.fits)
 
-encoded : (seq moment : ℕ) (batch : Batch) {none one two three four : Bytes} {count : ℕ} {es : List Entry} → none ≡ [] → one ≡ none ++ u64 seq → two ≡ one ++ u64 moment
+encoded : (seq moment : ℕ) (batch : Batch) {none one two three four : Bytes} {count : ℕ} {es : List BatchEntry} → none ≡ [] → one ≡ none ++ u64 seq → two ≡ one ++ u64 moment
     → count ≡ size batch → three ≡ two ++ u32 count → four ≡ three ++ entries_text es → es ≡ batch.entries → four ≡ body_of seq moment batch
 unfolding body_of
 encoded seq moment batch a b c counted d e all =

@@ -1,5 +1,5 @@
 use Rattle.std.proofs.Common.{sym}
-use Rattle.batch_codec.specs.EntryTexts.{put_length, delete_length}
+use Rattle.batch_codec.specs.EntryTextLaws.{put_length, delete_length}
 use Rattle.batch_codec.proofs.body.entry_len.Goals as goal
 
 pub returns-in-Put : goal.returns-in-Put

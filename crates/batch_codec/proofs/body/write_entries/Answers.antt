@@ -1,5 +1,5 @@
 use Rattle.std.proofs.Common.{arith}
-use Rattle.batch_codec.specs.EntryTexts.{next_length, front_length}
+use Rattle.batch_codec.specs.EntryTextLaws.{next_length, front_length}
 use Rattle.batch_codec.proofs.body.write_entries.Goals as goal
 
 pub write_entry-requires : goal.write_entry-requires

@@ -1,5 +1,5 @@
 use Rattle.std.proofs.Common.{refl, arith}
-use Rattle.batch_codec.specs.EntryTexts.{put_length, delete_length}
+use Rattle.batch_codec.specs.EntryTextLaws.{put_length, delete_length}
 use Rattle.batch_codec.proofs.body.write_entry.Goals as goal
 
 pub put_text-requires : goal.put_text-requires

@@ -11,7 +11,7 @@ use Rattle.kv_base.specs.Map.{Bytes, byte_cmp}
 use Rattle.batch_codec.specs.declared.slot.Entry.{Entry}
 use Rattle.batch_codec.specs.Slots.{pair, pairs}
 use Rattle.batch_codec.specs.BatchMaps.{IsBetween}
-use Rattle.batch_codec.specs.EntryLists.{rises, past_last}
+use Rattle.batch_codec.specs.EntryListLaws.{rises, past_last}
 use Rattle.batch_codec.proofs.place.place.Goals as goal
 
 is_less : (o : Ordering) (b : Bool) → b ≡ is_lt o → b ≡ true → o ≡ Less

@@ -4,7 +4,7 @@ use Rattle.batch_codec.specs.Batches.{are_rows}
 use Rattle.batch_codec.specs.Bodies.{entries_text}
 use Rattle.batch_codec.specs.BodyLaws.{length-body}
 use Rattle.batch_codec.specs.Slots.{pairs}
-use Rattle.batch_codec.specs.EntryTexts.{short_pairs, next_length}
+use Rattle.batch_codec.specs.EntryTextLaws.{short_pairs, next_length}
 use Rattle.batch_codec.proofs.batch.Batch.body_len.Goals as goal
 
 pub loop-entry-init : goal.loop-entry-init

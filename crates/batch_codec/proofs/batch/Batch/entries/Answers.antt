@@ -1,7 +1,7 @@
 use Rattle.std.proofs.Common.{ap, sym, ◌∙◌, subst, IsTrue}
 use Rattle.batch_codec.specs.Batches.{Batch, are_rows}
 use Rattle.batch_codec.specs.Slots.{pairs}
-use Rattle.batch_codec.specs.BatchMaps.{entries_of, rows_of}
+use Rattle.batch_codec.specs.BatchMapLaws.{entries_of, rows_of}
 use Rattle.batch_codec.proofs.batch.Batch.entries.Goals as goal
 
 pub returns-clause-all : goal.returns-clause-all

@@ -3,10 +3,11 @@ use Rattle.std.specs.List.{slice_get}
 use Rattle.kv_base.specs.Map.{Bytes}
 use Rattle.batch_codec.specs.declared.slot.Entry.{Entry}
 use Rattle.batch_codec.specs.Slots.{pair, slot_value, batch_of}
-use Rattle.batch_codec.specs.BatchMaps.{IsKept, entry_at, no_entry_at}
+use Rattle.batch_codec.specs.BatchMaps.{AreSortedEntries}
+use Rattle.batch_codec.specs.BatchMapLaws.{entry_at, no_entry_at}
 use Rattle.batch_codec.proofs.batch.Batch.entry.Goals as goal
 
-seen : (xs slice : List Entry) (at : ℕ) (entry : Entry) (raw : Bytes) (value : Option Bytes) → IsKept xs → slice ≡ xs → at < length slice → entry ≡ get_or slice at entry
+seen : (xs slice : List Entry) (at : ℕ) (entry : Entry) (raw : Bytes) (value : Option Bytes) → AreSortedEntries xs → slice ≡ xs → at < length slice → entry ≡ get_or slice at entry
     → raw ≡ entry.raw → value ≡ slot_value entry.slot → Some (raw, value) ≡ slice_get (batch_of xs).entries at
 seen xs slice at entry raw value h same low is raw_is value_is =
     let lengths = ap length same in

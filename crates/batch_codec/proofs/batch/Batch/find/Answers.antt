@@ -1,7 +1,7 @@
 use Rattle.std.proofs.Common.{Some, ap, sym, ◌∙◌, refl}
 use Rattle.kv_base.specs.Map.{get}
 use Rattle.batch_codec.specs.Slots.{slot_value}
-use Rattle.batch_codec.specs.BatchMaps.{there_too, between_too, get_there, get_between}
+use Rattle.batch_codec.specs.BatchMapLaws.{there_too, between_too, get_there, get_between}
 use Rattle.batch_codec.proofs.batch.Batch.find.Goals as goal
 
 pub returns-in-Ok : goal.returns-in-Ok

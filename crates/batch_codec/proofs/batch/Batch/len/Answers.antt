@@ -1,7 +1,7 @@
 use Rattle.std.proofs.Common.{length, ap, sym, ◌∙◌, subst, IsTrue}
 use Rattle.kv_base.specs.Map.{size}
 use Rattle.batch_codec.specs.Batches.{Batch, are_rows}
-use Rattle.batch_codec.specs.BatchMaps.{size_of, rows_of}
+use Rattle.batch_codec.specs.BatchMapLaws.{size_of, rows_of}
 use Rattle.batch_codec.proofs.batch.Batch.len.Goals as goal
 
 pub returns-clause-count : goal.returns-clause-count

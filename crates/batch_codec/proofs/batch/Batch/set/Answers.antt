@@ -2,7 +2,8 @@ use Rattle.std.proofs.Common.{List, ap, sym, ◌∙◌, subst}
 use Rattle.kv_base.specs.Map.{insert}
 use Rattle.batch_codec.specs.declared.slot.Entry.{Entry}
 use Rattle.batch_codec.specs.Slots.{slot_value, batch_of}
-use Rattle.batch_codec.specs.BatchMaps.{IsKept, there_too, between_too, set_there, set_between}
+use Rattle.batch_codec.specs.BatchMaps.{AreSortedEntries}
+use Rattle.batch_codec.specs.BatchMapLaws.{there_too, between_too, set_there, set_between}
 use Rattle.batch_codec.proofs.batch.Batch.set.Goals as goal
 use Rattle.batch_codec.proofs.batch.Batch.set.Goals.{in-Put-1, in-Del-1}
 
@@ -22,7 +23,7 @@ pub invariant_of-self-in-Continue-1 : goal.invariant_of-self-in-Continue-1
 invariant_of-self-in-Continue-1 c =
     let items = c.self.inside.entries.items in
     let between = between_too c.as_slice.result.now items c.bytes.result.now c.args.raw c.in-Err.at c.as_slice.ensures.value c.bytes.ensures c.in-Err.ensures.absent in
-    subst IsKept (sym c.in_ok-insert-in-Err.ensures.items) (set_between items c.in-Err.at (record { raw = c.args.raw; slot = c.args.slot }) c.self.invariant c.requires between).kept
+    subst AreSortedEntries (sym c.in_ok-insert-in-Err.ensures.items) (set_between items c.in-Err.at (record { raw = c.args.raw; slot = c.args.slot }) c.self.invariant c.requires between).kept
 
 pub returns-in-Ok-clause-ok : goal.returns-in-Ok-clause-ok
 returns-in-Ok-clause-ok c =
