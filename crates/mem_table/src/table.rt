@@ -1,21 +1,23 @@
-ghost use Rattle.std.specs.Prelude.{◌≡◌, ◌==◌, ◌≤◌, ◌<◌, ◌-◌, ◌^◌, ℕ, [], IsTrue, IfOk, min, length, option_map, true, false};
-ghost use Rattle.std.specs.List.{slice_get};
-ghost use Rattle.std.specs.List.Sorted.{IsPartitionPoint};
+ghost use Rattle.std.specs.Prelude.{◌≡◌, ◌==◌, ◌≤◌, ◌<◌, ◌+◌, ◌-◌, ◌^◌, ℕ, [], IsTrue, IfOk, min, length, option_map};
 ghost use Rattle.kv_base.specs.Map.{empty};
 ghost use Rattle.batch_codec.specs.Batches.{after};
 ghost use Rattle.row_model.specs.Rows.{are_below, are_row_texts, are_upto, at as map_at, batch_rows, seen_at};
 ghost use Rattle.row_model.specs.Replays.{do_rise, last_from, replayed, rows_after};
-ghost use Rattle.row_model.specs.RowOrder.{is_below, is_ordered, merged};
+ghost use Rattle.row_model.specs.RowOrder.{is_ordered, merged};
 ghost use Rattle.kv_base.specs.RowRefs.{row_seen};
-ghost use Rattle.mem_table.specs.Shared.{rows_of};
+ghost use Rattle.mem_table.specs.Search.{rows_from};
+ghost use Rattle.mem_table.specs.Tree.{leaf_rows};
 ghost use Rattle.mem_table.specs.Weights.{rows_weight};
 
-use crate::merge::{copy_rows, merge};
-use crate::place::{first_from, place};
+use crate::branch::Branch;
+use crate::cursor::MemCursor;
+use crate::merge::copy_rows;
 use crate::replay::replay_rows;
+use crate::root::{branches_with, cut_whole};
+use crate::search::seek;
 use crate::weight::weight;
 use batch_codec::{Batch, Record};
-use kv_base::{NoMem, Row, RowRef};
+use kv_base::{NoMem, RowRef};
 use std::alloc::Global;
 use std::marker::Model;
 use std::sync::Arc;
@@ -25,23 +27,24 @@ use std::sync::Arc;
 /// Raw keys and values are on their grammar. The rows are shared, so a table is handed on without copying them.
 #[derive(Drop)]
 pub struct MemTable {
-    rows: Option<Arc<Vec<Arc<Row>>>>,
+    root: Option<Arc<Vec<Arc<Branch>>>>,
+    count: usize,
     bytes: u64,
 }
 
 impl Model for MemTable {
-    ghost use Rattle.std.specs.Prelude.{◌≡◌, ◌-◌, ◌^◌, List, IsTrue, min};
+    ghost use Rattle.std.specs.Prelude.{◌≡◌, ◌-◌, ◌^◌, List, IsTrue, length, min};
     ghost use Rattle.kv_base.specs.declared.row.Row.{Row};
     ghost use Rattle.row_model.specs.Rows.{are_row_texts};
     ghost use Rattle.row_model.specs.RowOrder.{is_ordered};
-    ghost use Rattle.mem_table.specs.Shared.{rows_in};
+    ghost use Rattle.mem_table.specs.Tree.{tree_rows};
     ghost use Rattle.mem_table.specs.Weights.{rows_weight};
 
     ghost Value = { List Row };
 
-    ghost view = { λ t. rows_in t.rows };
+    ghost view = { λ t. tree_rows t.root };
 
-    ghost invariant = { λ t. IsTrue (is_ordered (rows_in t.rows)) × IsTrue (are_row_texts (rows_in t.rows)) × (t.bytes ≡ min (rows_weight (rows_in t.rows)) (2 ^ 64 - 1)) };
+    ghost invariant = { λ t. IsTrue (is_ordered (tree_rows t.root)) × IsTrue (are_row_texts (tree_rows t.root)) × (t.count ≡ length (tree_rows t.root)) × (t.bytes ≡ min (rows_weight (tree_rows t.root)) (2 ^ 64 - 1)) };
 }
 
 impl MemTable {
@@ -51,15 +54,17 @@ impl MemTable {
         ensures { result ≡ [] }
     {
         MemTable {
-            rows: None,
+            root: None,
+            count: 0,
             bytes: 0,
         }
     }
 
     /// The table with the rows of a batch under a sequence, which is above every sequence held. This table stays as it is.
     ///
-    /// The batch's raw keys and values are copied. Of the rows held a pointer each is copied, so a call takes time by
-    /// their number and not by their bytes.
+    /// The batch's raw keys and values are copied. Of the rows held none is copied, and of the pointers to them those that
+    /// stand beside a new row in a list of at most 64: the lists without a new row are shared with this table. Beside that
+    /// a call takes a step for each list of at most 64 such lists.
     pub fn with(&self, alloc: Global, batch: &Batch, seq: u64) -> Result<MemTable, NoMem>
         requires { IsTrue (are_below seq self.now) }
         ensures rows { IfOk result (λ table. table ≡ merged self.now (batch_rows seq batch.now)) }
@@ -68,10 +73,12 @@ impl MemTable {
         ensures older { IfOk result (λ table. (s : ℕ) → s < seq → map_at table s ≡ map_at self.now s) }
     {
         let new = copy_rows(alloc, batch, seq)?;
-        let rows = merge(alloc, self.rows(), new.as_slice())?;
+        let count = sum(self.count, new.as_slice().len())?;
         let bytes = self.bytes.saturating_add(weight(new.as_slice()));
+        let root = branches_with(alloc, self.branches(), new)?;
         Ok(MemTable {
-            rows: Some(Arc::new(alloc, rows)?),
+            root: Some(Arc::new(alloc, root)?),
+            count,
             bytes,
         })
     }
@@ -88,8 +95,11 @@ impl MemTable {
     {
         let rows = replay_rows(alloc, records)?;
         let bytes = weight(rows.as_slice());
+        let count = rows.as_slice().len();
+        let root = cut_whole(alloc, rows)?;
         Ok(MemTable {
-            rows: Some(Arc::new(alloc, rows)?),
+            root: Some(Arc::new(alloc, root)?),
+            count,
             bytes,
         })
     }
@@ -98,7 +108,8 @@ impl MemTable {
     pub fn find(&self, raw: &[u8], seq: u64) -> Option<RowRef<'_>>
         ensures { option_map row_seen result ≡ seen_at self.now seq raw.now }
     {
-        let row = self.row(place(self.rows(), raw, seq))?;
+        let mut rows = seek(self.branches(), raw, Some(seq));
+        let row = rows.next()?;
         if row.raw == raw { Some(row) } else { None }
     }
 
@@ -113,12 +124,13 @@ impl MemTable {
     pub fn share(&self) -> Result<MemTable, NoMem>
         ensures { IfOk result (λ table. table ≡ self.now) }
     {
-        let rows = match &self.rows {
-            Some(rows) => Some(Arc::try_clone(rows)?),
+        let root = match &self.root {
+            Some(root) => Some(Arc::try_clone(root)?),
             None => None,
         };
         Ok(MemTable {
-            rows,
+            root,
+            count: self.count,
             bytes: self.bytes,
         })
     }
@@ -129,7 +141,7 @@ impl MemTable {
         ensures order { IsTrue (is_ordered self.now) }
         ensures grammar { IsTrue (are_row_texts self.now) }
     {
-        self.rows().len()
+        self.count
     }
 
     /// Is there no row?
@@ -139,29 +151,33 @@ impl MemTable {
         self.len() == 0
     }
 
-    /// The row at a place in the order. There is none exactly where the place is not below `len`.
-    pub fn row(&self, at: usize) -> Option<RowRef<'_>>
-        ensures { option_map row_seen result ≡ slice_get self.now at }
-    {
-        Some(self.rows().get(at)?.by_ref())
-    }
-
-    /// The first place whose raw key is not below this one; `len` where there is none.
-    pub fn position(&self, raw: &[u8]) -> usize
-        ensures bound { result ≤ length self.now }
-        ensures split { IsPartitionPoint (λ row. is_below raw.now row ≡ true) (λ row. is_below raw.now row ≡ false) self.now result }
-    {
-        first_from(self.rows(), raw)
-    }
-
-    fn rows(&self) -> &[Arc<Row>]
-        ensures all { rows_of result.now ≡ self.now }
+    /// The rows whose raw keys are not below this one, in order. None of them is copied.
+    pub fn rows_from(&self, raw: &[u8]) -> MemCursor<'_>
+        ensures rows { result ≡ rows_from raw.now self.now }
         ensures order { IsTrue (is_ordered self.now) }
         ensures grammar { IsTrue (are_row_texts self.now) }
     {
-        match &self.rows {
-            Some(rows) => rows.as_slice(),
+        seek(self.branches(), raw, None)
+    }
+
+    fn branches(&self) -> &[Arc<Branch>]
+        ensures all { leaf_rows result.now ≡ self.now }
+        ensures order { IsTrue (is_ordered self.now) }
+        ensures grammar { IsTrue (are_row_texts self.now) }
+    {
+        match &self.root {
+            Some(root) => root.as_slice(),
             None => &[],
         }
+    }
+}
+
+/// The sum, where it fits.
+fn sum(count: usize, more: usize) -> Result<usize, NoMem>
+    ensures { IfOk result (λ all. all ≡ count + more) }
+{
+    match count.checked_add(more) {
+        Some(all) => Ok(all),
+        None => Err(NoMem),
     }
 }
