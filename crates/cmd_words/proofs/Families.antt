@@ -6,7 +6,7 @@ use Rattle.kv_base.specs.Map.{Bytes}
 use Rattle.redis_model.specs.Limits.{IsName, IsShort}
 use Rattle.redis_model.specs.declared.command.Command.{Command}
 use Rattle.redis_model.specs.declared.command.Command.TheVariants as cmd
-use Rattle.cmd_words.specs.Places.{K, V, F, M, N, S, B, D, NotLeast, Zero, Life, After, Until}
+use Rattle.cmd_words.specs.Places.{K, V, F, M, N, S, B, D, NotLeast, Zero, TimeToLive, After, Until}
 use Rattle.cmd_words.specs.Table.{of_no_keys, of_strings, of_keys, of_hashes, of_lists, of_sets, of_sorted_sets}
 use Rattle.cmd_words.proofs.Good.{Good, plain_good, pair_good, none_good, list_good, names_from, of1_good, of2_good, of3_good, of4_good, more_good, k_more_good, pairs_good, k_pairs_good, maybe_good, k_maybe_good, ranged_good}
 use Rattle.cmd_words.proofs.GoodOptions.{set_good, range_by_score_good, add_good}
@@ -36,8 +36,8 @@ unfolding of_strings
 strings_good strings.Get n w ws c short few h = of1_good n w K cmd.Get (λ k h. plain_good n w (cmd.Get k w) k refl h tt refl refl) ws c short h
 strings_good strings.Set n w ws c short few h = set_good n w ws c short h
 strings_good strings.SetNx n w ws c short few h = of2_good n w K V cmd.SetNx (λ k x h i. plain_good n w (cmd.SetNx k x w) k refl h i refl refl) ws c short h
-strings_good strings.SetEx n w ws c short few h = of3_good n w K (Life 1000) V cmd.SetEx (λ k x y h i j. plain_good n w (cmd.SetEx k x y w) k refl h (i, j) refl refl) ws c short h
-strings_good strings.PSetEx n w ws c short few h = of3_good n w K (Life 1) V cmd.PSetEx (λ k x y h i j. plain_good n w (cmd.PSetEx k x y w) k refl h (i, j) refl refl) ws c short h
+strings_good strings.SetEx n w ws c short few h = of3_good n w K (TimeToLive 1000) V cmd.SetEx (λ k x y h i j. plain_good n w (cmd.SetEx k x y w) k refl h (i, j) refl refl) ws c short h
+strings_good strings.PSetEx n w ws c short few h = of3_good n w K (TimeToLive 1) V cmd.PSetEx (λ k x y h i j. plain_good n w (cmd.PSetEx k x y w) k refl h (i, j) refl refl) ws c short h
 strings_good strings.GetSet n w ws c short few h = of2_good n w K V cmd.GetSet (λ k x h i. plain_good n w (cmd.GetSet k x w) k refl h i refl refl) ws c short h
 strings_good strings.GetDel n w ws c short few h = of1_good n w K cmd.GetDel (λ k h. plain_good n w (cmd.GetDel k w) k refl h tt refl refl) ws c short h
 strings_good strings.MGet n w ws c short few h = more_good n w cmd.MGet (λ ks some names few. record { names = names; fields = some; few = few; weighs = refl }) ws c few h

@@ -14,7 +14,7 @@ use Rattle.redis_model.specs.declared.command.Bound.TheVariants as bound
 use Rattle.redis_model.specs.Limits.{IsName, IsShort, IsWholeScore, IsBound, IsGivenTime}
 use Rattle.cmd_words.specs.Words.{is}
 use Rattle.cmd_words.specs.Bounds.{end_at, end_by, read_bound}
-use Rattle.cmd_words.specs.Places.{Place, K, V, F, M, N, S, B, D, Count, NotLeast, Zero, Life, After, Until, Said, said, int_of, is_long, no_int, beyond, is_not_zero, too_long, not_int, bad_time, no_database}
+use Rattle.cmd_words.specs.Places.{Place, K, V, F, M, N, S, B, D, Count, NotLeast, Zero, TimeToLive, After, Until, Said, said, int_of, is_long, no_int, beyond, is_not_zero, too_long, not_int, bad_time, no_database}
 
 abbrev pub Fits : (p : Place) → Said p → Type 0
 Fits K w = IsName w
@@ -28,7 +28,7 @@ Fits D e = Unit {0}
 Fits Count z = pos 0 ≤ℤ z
 Fits NotLeast z = z ≢ negsuc (2 ^ 63 - 1)
 Fits Zero z = z ≡ pos 0
-Fits (Life u) x = IsGivenTime x
+Fits (TimeToLive u) x = IsGivenTime x
 Fits (After u) x = IsGivenTime x
 Fits (Until u) x = IsGivenTime x
 
@@ -148,6 +148,6 @@ fit D w short h = tt
 fit Count w short h = count_fits (int_of w) (or_false_right (no_int w) _ h.whole)
 fit NotLeast w short h = least_fits (int_of w) (or_false_right (no_int w) _ h.whole)
 fit Zero w short h = zero_fits (int_of w) h.database
-fit (Life u) w short h = amount_fits (pos u *ℤ int_of w) (or_false_right (int_lt (int_of w) (pos 1)) _ h.time)
+fit (TimeToLive u) w short h = amount_fits (pos u *ℤ int_of w) (or_false_right (int_lt (int_of w) (pos 1)) _ h.time)
 fit (After u) w short h = amount_fits (pos u *ℤ int_of w) h.time
 fit (Until u) w short h = deadline_fits (pos u *ℤ int_of w) h.time

@@ -16,7 +16,7 @@ use Rattle.redis_model.specs.declared.command.Expiry.TheVariants as expiry
 use Rattle.redis_model.specs.declared.command.When.{When}
 use Rattle.redis_model.specs.declared.command.When.TheVariants as when
 use Rattle.cmd_words.specs.Words.{is}
-use Rattle.cmd_words.specs.Places.{K, M, S, B, Life, said, int_of}
+use Rattle.cmd_words.specs.Places.{K, M, S, B, TimeToLive, said, int_of}
 use Rattle.cmd_words.specs.Reading.{Placed, judged, judged_as, all_at, firsts, seconds, no_pairs, one_and_two, two_and_any, three_and_any}
 use Rattle.cmd_words.specs.Options.{unit, amount, with_when, with_time, with_word, by_unit, set_options, no_options, set, range_options, no_range_options, limited, bounds, range_by_score}
 use Rattle.cmd_words.specs.Add.{with_flag, or_else, flags, no_flags, off, how, scored, add}
@@ -51,8 +51,8 @@ amount_timely : (u : ℕ) (n : Bytes) (e : Expiry) → amount u n ≡ Ok e → I
 unfolding amount
 amount_timely u n e h =
     let value : Expiry = expiry.After (pos u *ℤ int_of n) in
-    let j = judged_right false ((Life u, n) ∷ []) value e h in
-    let passed : Passed (Life u) n = first_passed (Life u) n [] j.passed in
+    let j = judged_right false ((TimeToLive u, n) ∷ []) value e h in
+    let passed : Passed (TimeToLive u) n = first_passed (TimeToLive u) n [] j.passed in
     let within : IsTime value = amount_fits (pos u *ℤ int_of n) (or_false_right (int_lt (int_of n) (pos 1)) _ passed.time) in
     subst IsTime (sym j.value) within
 

@@ -5,7 +5,7 @@ use Rattle.std.specs.List.{remove}
 use Rattle.kv_base.specs.Map.{Bytes}
 use Rattle.cmd_words.specs.Words.{lower, weight_of}
 use Rattle.cmd_words.specs.Names.{named}
-use Rattle.cmd_words.specs.Reading.{Tells}
+use Rattle.cmd_words.specs.Reading.{IsToldOrNoMem}
 use Rattle.cmd_words.specs.Table.{read}
 use Rattle.cmd_words.specs.Parsed.{told, by_name, behind, parsed_as, MayRunOut, IsParsed}
 use Rattle.cmd_words.specs.declared.name.Name.{Name}
@@ -43,10 +43,10 @@ may_be_named name (Ok (Data c)) m = tt
 may_be_named name (Ok p) m = absurd m
 may_be_named name (Err e) m = tt
 
-told_kind : (kind : FaultKind) (name : Bytes) (r : CommandFault) (t : Result Parsed FaultKind) (q : Result Parsed CommandFault) → q ≡ by_name name t → Tells (Err kind) t → MayRunOut t → IsParsed (Err r) (Err (told name kind)) → IsParsed (Err r) q
+told_kind : (kind : FaultKind) (name : Bytes) (r : CommandFault) (t : Result Parsed FaultKind) (q : Result Parsed CommandFault) → q ≡ by_name name t → IsToldOrNoMem (Err kind) t → MayRunOut t → IsParsed (Err r) (Err (told name kind)) → IsParsed (Err r) q
 told_kind kind name fault.NoMem t q e d may m = subst MayRunOut (sym e) (may_be_named name t may)
 told_kind wrong.NoMem name r t q e d may m = cc
 told_kind kind name r t q e d may m = e ∙ ap (by_name name) d ∙ m
 
-pub refused : (words rest : List Bytes) (first : Bytes) (o : Option Name) (n : Name) (weight : ℕ) (kind : FaultKind) (r : CommandFault) → Parts words first rest → o ≡ named first → o ≡ Some n → weight ≡ weight_of words → Tells (Err kind) (read n weight rest) → MayRunOut (read n weight rest) → IsParsed (Err r) (Err (told (lower first) kind)) → IsParsed (Err r) (parsed_as words)
+pub refused : (words rest : List Bytes) (first : Bytes) (o : Option Name) (n : Name) (weight : ℕ) (kind : FaultKind) (r : CommandFault) → Parts words first rest → o ≡ named first → o ≡ Some n → weight ≡ weight_of words → IsToldOrNoMem (Err kind) (read n weight rest) → MayRunOut (read n weight rest) → IsParsed (Err r) (Err (told (lower first) kind)) → IsParsed (Err r) (parsed_as words)
 refused words rest first o n weight kind r p h e k d may m = told_kind kind (lower first) r (read n weight rest) (parsed_as words) (known words rest first o n weight p h e k) d may m

@@ -11,7 +11,7 @@ use Rattle.redis_model.specs.declared.command.Expiry.TheVariants as expiry
 use Rattle.redis_model.specs.declared.command.Limit.{Limit}
 use Rattle.redis_model.specs.declared.command.Bound.{Bound}
 use Rattle.cmd_words.specs.Words.{is}
-use Rattle.cmd_words.specs.Places.{K, N, B, Life, said}
+use Rattle.cmd_words.specs.Places.{K, N, B, TimeToLive, said}
 use Rattle.cmd_words.specs.Reading.{◌>>=◌, two_and_any, three_and_any, judged, judged_as}
 use Rattle.cmd_words.specs.declared.fault.FaultKind.{FaultKind}
 use Rattle.cmd_words.specs.declared.set_options.SetOptions.{SetOptions}
@@ -24,7 +24,7 @@ unfoldable pub unit : Bytes → Option ℕ
 unit w = if is (codes "ex") w then Some 1000 else if is (codes "px") w then Some 1 else None
 
 unfoldable pub amount : ℕ → Bytes → Result Expiry FaultKind
-amount u n = judged ((Life u, n) ∷ []) (said (Life u) n)
+amount u n = judged ((TimeToLive u, n) ∷ []) (said (TimeToLive u) n)
 
 abbrev pub with_when : SetOptions → When → Option SetOptions
 with_when o x = if is_none o.when then Some (record o { when = Some x }) else None

@@ -51,7 +51,7 @@ IsParsed (Err fault.NoMem) p = MayRunOut p
 IsParsed r p = p ≡ r
 
 -- what a request can ask for: a command within the limits, which weighs what the words weigh, or a level that is there
-abbrev pub IsAsked : List Bytes → Parsed → Type 0
-IsAsked words (Data c) = IsWithin c × (weight c ≡ weight_of words)
-IsAsked words (Upkeep (Compact (Some n))) = n < 4
-IsAsked words _ = Unit {0}
+abbrev pub IsAskable : List Bytes → Parsed → Type 0
+IsAskable words (Data c) = IsWithin c × (weight c ≡ weight_of words)
+IsAskable words (Upkeep (Compact (Some n))) = n < 4
+IsAskable words _ = Unit {0}

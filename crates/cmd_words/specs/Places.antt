@@ -16,7 +16,7 @@ use Rattle.cmd_words.specs.Bounds.{read_bound}
 
 -- K key, V value, F field, M member, N whole number, S score, B end of a range of scores, D direction;
 -- whole numbers with a rule of their own: Count from 0 on, NotLeast all but -2^63, Zero the number of the one database;
--- times, with the milliseconds in a unit: Life an amount from 1 on, After any amount, Until a deadline
+-- times, with the milliseconds in a unit: TimeToLive an amount from 1 on, After any amount, Until a deadline
 pub data Place : Type 0 where
   K : Place
   V : Place
@@ -29,7 +29,7 @@ pub data Place : Type 0 where
   Count : Place
   NotLeast : Place
   Zero : Place
-  Life : ℕ → Place
+  TimeToLive : ℕ → Place
   After : ℕ → Place
   Until : ℕ → Place
 
@@ -53,7 +53,7 @@ Said D = End
 Said Count = ℤ
 Said NotLeast = ℤ
 Said Zero = ℤ
-Said (Life u) = Expiry
+Said (TimeToLive u) = Expiry
 Said (After u) = Expiry
 Said (Until u) = Expiry
 
@@ -69,7 +69,7 @@ said D w = unwrap_or (direction w) ends.Left
 said Count w = int_of w
 said NotLeast w = int_of w
 said Zero w = int_of w
-said (Life u) w = expiry.After (pos u *ℤ int_of w)
+said (TimeToLive u) w = expiry.After (pos u *ℤ int_of w)
 said (After u) w = expiry.After (pos u *ℤ int_of w)
 said (Until u) w = expiry.At (pos u *ℤ int_of w)
 
@@ -103,7 +103,7 @@ not_int N w = no_int w
 not_int Count w = no_count w
 not_int NotLeast w = no_negatable w
 not_int Zero w = no_int w
-not_int (Life u) w = no_int w
+not_int (TimeToLive u) w = no_int w
 not_int (After u) w = no_int w
 not_int (Until u) w = no_int w
 not_int _ w = false
@@ -117,8 +117,8 @@ not_score _ w = false
 abbrev pub beyond : ℕ → ℤ → Bool
 beyond n z = int_lt z (negsuc (2 ^ n - 1)) || int_lt (pos (2 ^ n)) z
 
-abbrev pub bad_life : ℕ → ℤ → Bool
-bad_life u z = int_lt z (pos 1) || beyond 61 (pos u *ℤ z)
+abbrev pub bad_time_to_live : ℕ → ℤ → Bool
+bad_time_to_live u z = int_lt z (pos 1) || beyond 61 (pos u *ℤ z)
 
 abbrev pub bad_after : ℕ → ℤ → Bool
 bad_after u z = beyond 61 (pos u *ℤ z)
@@ -127,7 +127,7 @@ abbrev pub bad_until : ℕ → ℤ → Bool
 bad_until u z = beyond 62 (pos u *ℤ z)
 
 abbrev pub bad_time : Place → Bytes → Bool
-bad_time (Life u) w = bad_life u (int_of w)
+bad_time (TimeToLive u) w = bad_time_to_live u (int_of w)
 bad_time (After u) w = bad_after u (int_of w)
 bad_time (Until u) w = bad_until u (int_of w)
 bad_time _ w = false

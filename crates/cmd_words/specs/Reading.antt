@@ -158,12 +158,12 @@ said_k_maybe p ws = if length ws == 1 then (said1 K ws >>= λ x. Ok (x, None)) e
 -- ---- what a function that reads words returns
 
 -- it is what was told, unless memory ran out
-abbrev pub Tells : {A : Type 0} → Result A FaultKind → Result A FaultKind → Type 0
-Tells (Ok a) told = told ≡ Ok a
-Tells (Err wrong.NoMem) told = Unit {0}
-Tells (Err e) told = told ≡ Err e
+abbrev pub IsToldOrNoMem : {A : Type 0} → Result A FaultKind → Result A FaultKind → Type 0
+IsToldOrNoMem (Ok a) told = told ≡ Ok a
+IsToldOrNoMem (Err wrong.NoMem) told = Unit {0}
+IsToldOrNoMem (Err e) told = told ≡ Err e
 
 -- a word at its place: what it says, or its fault
-abbrev pub Passes : {A : Type 0} → Result A FaultKind → Bool → FaultKind → A → Type 0
-Passes (Ok a) bad fault x = (a ≡ x) × (bad ≡ false)
-Passes (Err e) bad fault x = (e ≡ fault) × (bad ≡ true)
+abbrev pub ReadsWord : {A : Type 0} → Result A FaultKind → Bool → FaultKind → A → Type 0
+ReadsWord (Ok a) bad fault x = (a ≡ x) × (bad ≡ false)
+ReadsWord (Err e) bad fault x = (e ≡ fault) × (bad ≡ true)

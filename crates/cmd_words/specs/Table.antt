@@ -7,7 +7,7 @@ use Rattle.redis_model.specs.declared.command.Command.{Command}
 use Rattle.redis_model.specs.declared.command.Command.TheVariants as cmd
 use Rattle.redis_model.specs.declared.upkeep.Upkeep.TheVariants as upkeep
 use Rattle.cmd_words.specs.Words.{is}
-use Rattle.cmd_words.specs.Places.{Place, K, V, F, M, N, S, B, D, Count, NotLeast, Zero, Life, After, Until, Said}
+use Rattle.cmd_words.specs.Places.{Place, K, V, F, M, N, S, B, D, Count, NotLeast, Zero, TimeToLive, After, Until, Said}
 use Rattle.cmd_words.specs.Reading.{◌>>=◌, said1, said2, said3, said4, said_more, said_k_more, said_pairs, said_k_pairs, said_maybe, said_k_maybe}
 use Rattle.cmd_words.specs.Options.{set, range_by_score, said_range}
 use Rattle.cmd_words.specs.Add.{add}
@@ -112,8 +112,8 @@ unfoldable pub of_strings : StringName → Row
 of_strings strings.Get = of1 K cmd.Get
 of_strings strings.Set = set
 of_strings strings.SetNx = of2 K V cmd.SetNx
-of_strings strings.SetEx = of3 K (Life 1000) V cmd.SetEx
-of_strings strings.PSetEx = of3 K (Life 1) V cmd.PSetEx
+of_strings strings.SetEx = of3 K (TimeToLive 1000) V cmd.SetEx
+of_strings strings.PSetEx = of3 K (TimeToLive 1) V cmd.PSetEx
 of_strings strings.GetSet = of2 K V cmd.GetSet
 of_strings strings.GetDel = of1 K cmd.GetDel
 of_strings strings.MGet = more K cmd.MGet

@@ -18,7 +18,7 @@ abbrev pub weight_of : List Bytes → ℕ
 weight_of = sum_by (λ word. length word + 16)
 
 -- the words of a request, within the limits of the wire
-pub record IsRequest (words : List Bytes) : Type 0 where
+pub record AreRequestWords (words : List Bytes) : Type 0 where
   pub some : 0 < length words
   pub few : length words ≤ max_words
   pub short : All IsShort words

@@ -4,7 +4,7 @@ ghost use Rattle.std.specs.Prelude.{◌≡◌, ◌≤◌, length, map, drop, Ok,
 ghost use Rattle.std.specs.List.{list_any};
 ghost use Rattle.kv_base.specs.Score.{read_score as score_at};
 ghost use Rattle.cmd_words.specs.Places.{S, said, is_long};
-ghost use Rattle.cmd_words.specs.Reading.{seconds, Tells};
+ghost use Rattle.cmd_words.specs.Reading.{seconds, IsToldOrNoMem};
 ghost use Rattle.cmd_words.specs.Add.{with_flag, flags, off, when_of, how, no_flags, scored as scored_at, add as add_row};
 
 use crate::case::is_word;
@@ -118,7 +118,7 @@ fn is_member_long(pairs: &[Blob]) -> bool
 }
 
 fn scores_of(alloc: Global, words: &[Blob]) -> Result<Scores, FaultKind>
-    ensures { Tells result (if list_any (λ word. is_none (score_at word)) words.now then Err FaultKind.NotScore else Ok (map (said S) words.now)) }
+    ensures { IsToldOrNoMem result (if list_any (λ word. is_none (score_at word)) words.now then Err FaultKind.NotScore else Ok (map (said S) words.now)) }
 {
     let Ok(mut scores) = Vec::with_capacity(alloc, words.len()) else {
         return Err(FaultKind::NoMem);
@@ -141,7 +141,7 @@ fn scored(
     flags: AddFlags,
 ) -> Result<(Scores, Blobs), FaultKind>
     requires { count ≤ length words }
-    ensures { Tells result (scored_at flags (drop count words)) }
+    ensures { IsToldOrNoMem result (scored_at flags (drop count words)) }
 {
     let (_, pairs) = words.as_slice().split_at(count);
     if is_member_long(pairs) {
@@ -159,7 +159,7 @@ fn scored(
 
 #[tactic(auto, unfolding(crate::specs::Add::add))]
 pub fn add(alloc: Global, words: Blobs, weight: u64) -> Result<Command, FaultKind>
-    ensures { Tells result (add_row weight words) }
+    ensures { IsToldOrNoMem result (add_row weight words) }
 {
     let (key, words) = one_and_two_more(words)?;
     let key = key_at(key)?;

@@ -13,7 +13,7 @@ pub fn one(mut words: Blobs) -> Result<Blob, FaultKind>
     if words.len() != 1 {
         return Err(FaultKind::Arity);
     }
-    words.pop().ok_or(FaultKind::Arity)
+    Ok(words.remove(0))
 }
 
 #[tactic(auto, unfolding(crate::specs::Reading::pair))]
@@ -23,8 +23,8 @@ pub fn two(mut words: Blobs) -> Result<(Blob, Blob), FaultKind>
     if words.len() != 2 {
         return Err(FaultKind::Arity);
     }
-    let second = words.pop().ok_or(FaultKind::Arity)?;
-    let first = words.pop().ok_or(FaultKind::Arity)?;
+    let first = words.remove(0);
+    let second = words.remove(0);
     Ok((first, second))
 }
 
@@ -35,9 +35,9 @@ pub fn three(mut words: Blobs) -> Result<(Blob, Blob, Blob), FaultKind>
     if words.len() != 3 {
         return Err(FaultKind::Arity);
     }
-    let third = words.pop().ok_or(FaultKind::Arity)?;
-    let second = words.pop().ok_or(FaultKind::Arity)?;
-    let first = words.pop().ok_or(FaultKind::Arity)?;
+    let first = words.remove(0);
+    let second = words.remove(0);
+    let third = words.remove(0);
     Ok((first, second, third))
 }
 
@@ -48,10 +48,10 @@ pub fn four_words(mut words: Blobs) -> Result<(Blob, Blob, Blob, Blob), FaultKin
     if words.len() != 4 {
         return Err(FaultKind::Arity);
     }
-    let fourth = words.pop().ok_or(FaultKind::Arity)?;
-    let third = words.pop().ok_or(FaultKind::Arity)?;
-    let second = words.pop().ok_or(FaultKind::Arity)?;
-    let first = words.pop().ok_or(FaultKind::Arity)?;
+    let first = words.remove(0);
+    let second = words.remove(0);
+    let third = words.remove(0);
+    let fourth = words.remove(0);
     Ok((first, second, third, fourth))
 }
 

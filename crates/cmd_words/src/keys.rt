@@ -1,5 +1,5 @@
 ghost use Rattle.std.specs.Prelude.{◌≡◌};
-ghost use Rattle.cmd_words.specs.Reading.{Tells};
+ghost use Rattle.cmd_words.specs.Reading.{IsToldOrNoMem};
 ghost use Rattle.cmd_words.specs.Table.{of_keys};
 
 use crate::fault::FaultKind;
@@ -28,7 +28,7 @@ impl KeyName {
     /// What the words behind this name are read into. They weigh so much together with it.
     #[tactic(auto, unfolding(crate::specs::Table::of_keys))]
     pub fn read(self, alloc: Global, words: Blobs, weight: u64) -> Result<Command, FaultKind>
-        ensures { Tells result (of_keys self weight words) }
+        ensures { IsToldOrNoMem result (of_keys self weight words) }
     {
         match self {
             KeyName::Del => Ok(Command::Del(keys(alloc, words)?, weight)),

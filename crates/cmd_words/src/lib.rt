@@ -30,6 +30,3 @@ mod words;
 pub use fault::{CommandFault, FaultText};
 pub use parsed::Parsed;
 pub use words::parse;
-
-#[cfg(test)]
-mod tests;

@@ -1,5 +1,5 @@
 ghost use Rattle.std.specs.Prelude.{◌≡◌};
-ghost use Rattle.cmd_words.specs.Reading.{Tells};
+ghost use Rattle.cmd_words.specs.Reading.{IsToldOrNoMem};
 ghost use Rattle.cmd_words.specs.Table.{of_lists};
 
 use crate::fault::FaultKind;
@@ -30,7 +30,7 @@ impl ListName {
     /// What the words behind this name are read into. They weigh so much together with it.
     #[tactic(auto, unfolding(crate::specs::Table::of_lists))]
     pub fn read(self, words: Blobs, weight: u64) -> Result<Command, FaultKind>
-        ensures { Tells result (of_lists self weight words) }
+        ensures { IsToldOrNoMem result (of_lists self weight words) }
     {
         match self {
             ListName::LPush => {

@@ -3,7 +3,7 @@
 ghost use Rattle.std.specs.Prelude.{◌≡◌, ◌≤◌, ◌-◌, ◌%◌, Ok, Err, ◌<◌, drop, ◌++◌, ◌∷◌, [], length, if◌then◌else◌, IfOk, IfErr};
 ghost use Rattle.std.specs.List.{list_any};
 ghost use Rattle.cmd_words.specs.Places.{K, V, F, M, Count, is_long};
-ghost use Rattle.cmd_words.specs.Reading.{firsts, seconds, in_pairs, said_more, said_k_more, said_pairs, said_k_pairs, said_maybe, said_k_maybe, Tells};
+ghost use Rattle.cmd_words.specs.Reading.{firsts, seconds, in_pairs, said_more, said_k_more, said_pairs, said_k_pairs, said_maybe, said_k_maybe, IsToldOrNoMem};
 
 use crate::counts::{one_and_more, some_words};
 use crate::fault::FaultKind;
@@ -14,7 +14,7 @@ use std::alloc::Global;
 
 /// The words as keys. They are moved.
 fn keys_of(alloc: Global, mut words: Blobs) -> Result<Keys, FaultKind>
-    ensures { Tells result (if list_any is_long words then Err FaultKind.TooLong else Ok words) }
+    ensures { IsToldOrNoMem result (if list_any is_long words then Err FaultKind.TooLong else Ok words) }
 {
     let Ok(mut keys) = Vec::with_capacity(alloc, words.len()) else {
         return Err(FaultKind::NoMem);
@@ -69,7 +69,7 @@ pub fn split_pairs(
 /// Words in pairs, of which there is at least one.
 #[tactic(auto, unfolding(crate::specs::Reading::in_pairs))]
 fn pairs(alloc: Global, words: Blobs) -> Result<(Blobs, Blobs), FaultKind>
-    ensures { Tells result (in_pairs words) }
+    ensures { IsToldOrNoMem result (in_pairs words) }
 {
     if words.is_empty() || words.len() % 2 == 1 {
         return Err(FaultKind::Arity);
@@ -82,7 +82,7 @@ fn pairs(alloc: Global, words: Blobs) -> Result<(Blobs, Blobs), FaultKind>
 
 #[tactic(auto, using(crate::proofs::Judged::judged_short), unfolding(crate::specs::Reading::said_more))]
 pub fn keys(alloc: Global, words: Blobs) -> Result<Keys, FaultKind>
-    ensures { Tells result (said_more K words) }
+    ensures { IsToldOrNoMem result (said_more K words) }
 {
     let words = some_words(words)?;
     keys_of(alloc, words)
@@ -112,7 +112,7 @@ pub fn key_fields(words: Blobs) -> Result<(Key, Blobs), FaultKind>
 
 #[tactic(auto, using(crate::proofs::Judged::judged_short), unfolding(crate::specs::Reading::said_k_more))]
 pub fn key_keys(alloc: Global, words: Blobs) -> Result<(Key, Keys), FaultKind>
-    ensures { Tells result (said_k_more K words) }
+    ensures { IsToldOrNoMem result (said_k_more K words) }
 {
     let (key, others) = one_and_more(words)?;
     let key = key_at(key)?;
@@ -122,7 +122,7 @@ pub fn key_keys(alloc: Global, words: Blobs) -> Result<(Key, Keys), FaultKind>
 
 #[tactic(auto, using(crate::proofs::Judged::judged_short), unfolding(crate::specs::Reading::said_pairs))]
 pub fn keys_values(alloc: Global, words: Blobs) -> Result<(Keys, Blobs), FaultKind>
-    ensures { Tells result (said_pairs K words) }
+    ensures { IsToldOrNoMem result (said_pairs K words) }
 {
     let (keys, values) = pairs(alloc, words)?;
     let keys = keys_of(alloc, keys)?;
@@ -131,7 +131,7 @@ pub fn keys_values(alloc: Global, words: Blobs) -> Result<(Keys, Blobs), FaultKi
 
 #[tactic(auto, using(crate::proofs::Judged::judged_short), unfolding(crate::specs::Reading::said_k_pairs))]
 pub fn key_fields_values(alloc: Global, words: Blobs) -> Result<(Key, Blobs, Blobs), FaultKind>
-    ensures { Tells result (said_k_pairs F words) }
+    ensures { IsToldOrNoMem result (said_k_pairs F words) }
 {
     let (key, others) = one_and_more(words)?;
     let (fields, values) = pairs(alloc, others)?;

@@ -3,8 +3,8 @@
 ghost use Rattle.std.specs.Prelude.{◌≡◌, slice_get, OnErr};
 ghost use Rattle.cmd_words.specs.Words.{lower};
 ghost use Rattle.cmd_words.specs.Names.{named, find_name, starting, shorter, longer};
-ghost use Rattle.cmd_words.specs.Reading.{Tells};
-ghost use Rattle.cmd_words.specs.Table.{read};
+ghost use Rattle.cmd_words.specs.Reading.{IsToldOrNoMem};
+ghost use Rattle.cmd_words.specs.Table.{data_of, read};
 ghost use Rattle.cmd_words.specs.Parsed.{MayRunOut};
 
 use crate::case::is_word;
@@ -19,6 +19,7 @@ use crate::sets::SetName;
 use crate::sorted_sets::SortedSetName;
 use crate::strings::StringName;
 use kv_base::{Blob, Blobs};
+use redis_model::Command;
 use std::alloc::Global;
 
 /// A command, by the family that it belongs to.
@@ -36,22 +37,29 @@ pub enum Name {
 
 impl Name {
     /// What the words behind this name are read into. They weigh so much together with it.
-    #[tactic(auto, unfolding(crate::specs::Table::read), using(crate::proofs::Memory::of_data))]
+    #[tactic(auto, unfolding(crate::specs::Table::read), using(crate::proofs::Memory::of_data, crate::proofs::Memory::tells_data))]
     pub fn read(self, alloc: Global, words: Blobs, weight: u64) -> Result<Parsed, FaultKind>
-        ensures table { Tells result (read self weight words) }
+        ensures table { IsToldOrNoMem result (read self weight words) }
         ensures memory { OnErr result (MayRunOut (read self weight words)) }
     {
         match self {
-            Name::NoKeys(name) => Ok(Parsed::Data(name.read(words, weight)?)),
-            Name::Strings(name) => Ok(Parsed::Data(name.read(alloc, words, weight)?)),
-            Name::Keys(name) => Ok(Parsed::Data(name.read(alloc, words, weight)?)),
-            Name::Hashes(name) => Ok(Parsed::Data(name.read(alloc, words, weight)?)),
-            Name::Lists(name) => Ok(Parsed::Data(name.read(words, weight)?)),
-            Name::Sets(name) => Ok(Parsed::Data(name.read(alloc, words, weight)?)),
-            Name::SortedSets(name) => Ok(Parsed::Data(name.read(alloc, words, weight)?)),
+            Name::NoKeys(name) => data(name.read(words, weight)),
+            Name::Strings(name) => data(name.read(alloc, words, weight)),
+            Name::Keys(name) => data(name.read(alloc, words, weight)),
+            Name::Hashes(name) => data(name.read(alloc, words, weight)),
+            Name::Lists(name) => data(name.read(words, weight)),
+            Name::Sets(name) => data(name.read(alloc, words, weight)),
+            Name::SortedSets(name) => data(name.read(alloc, words, weight)),
             Name::Session(name) => name.read(words),
         }
     }
+}
+
+/// What the words of a data command are read into.
+fn data(read: Result<Command, FaultKind>) -> Result<Parsed, FaultKind>
+    ensures { result ≡ data_of read }
+{
+    Ok(Parsed::Data(read?))
 }
 
 /// The first byte, as a small letter where it is a capital.

@@ -1,5 +1,5 @@
 ghost use Rattle.std.specs.Prelude.{◌≡◌};
-ghost use Rattle.cmd_words.specs.Reading.{Tells};
+ghost use Rattle.cmd_words.specs.Reading.{IsToldOrNoMem};
 ghost use Rattle.cmd_words.specs.Table.{of_no_keys};
 
 use crate::fault::FaultKind;
@@ -20,7 +20,7 @@ impl NoKeyName {
     /// What the words behind this name are read into. They weigh so much together with it.
     #[tactic(auto, unfolding(crate::specs::Table::of_no_keys))]
     pub fn read(self, words: Blobs, weight: u64) -> Result<Command, FaultKind>
-        ensures { Tells result (of_no_keys self weight words) }
+        ensures { IsToldOrNoMem result (of_no_keys self weight words) }
     {
         match self {
             NoKeyName::Ping => Ok(Command::Ping(maybe_value(words)?, weight)),

@@ -4,8 +4,8 @@ ghost use Rattle.std.specs.Prelude.{◌≡◌, is_none, ◌≤ℤ◌, ◌*ℤ◌
 ghost use Rattle.std.specs.Option.{unwrap_or};
 ghost use Rattle.kv_base.specs.Score.{read_score as score_at};
 ghost use Rattle.cmd_words.specs.Bounds.{read_bound as bound_at};
-ghost use Rattle.cmd_words.specs.Places.{D, S, B, said, is_long, no_int, no_count, no_negatable, int_of, direction as direction_at, bad_life, bad_after, bad_until, is_not_zero};
-ghost use Rattle.cmd_words.specs.Reading.{Passes};
+ghost use Rattle.cmd_words.specs.Places.{D, S, B, said, is_long, no_int, no_count, no_negatable, int_of, direction as direction_at, bad_time_to_live, bad_after, bad_until, is_not_zero};
+ghost use Rattle.cmd_words.specs.Reading.{ReadsWord};
 
 use crate::bounds::read_bound;
 use crate::case::is_word;
@@ -20,7 +20,7 @@ const MAX_AMOUNT: i64 = 1 << 61;
 const MAX_DEADLINE: i64 = 1 << 62;
 
 pub fn direction(word: &Blob) -> Result<End, FaultKind>
-    ensures { Passes result (is_none (direction_at word.now)) FaultKind.Syntax (said D word.now) }
+    ensures { ReadsWord result (is_none (direction_at word.now)) FaultKind.Syntax (said D word.now) }
 {
     if is_word(word, b"left") {
         Ok(End::Left)
@@ -43,8 +43,8 @@ fn milliseconds(unit: u16, number: i64, most: i64) -> Option<i64>
 }
 
 /// An amount of time that is to be more than nothing.
-pub fn life(unit: u16, number: i64) -> Result<Expiry, FaultKind>
-    ensures { Passes result (bad_life unit number) FaultKind.BadExpire (Expiry.After (pos unit *ℤ number)) }
+pub fn time_to_live(unit: u16, number: i64) -> Result<Expiry, FaultKind>
+    ensures { ReadsWord result (bad_time_to_live unit number) FaultKind.BadExpire (Expiry.After (pos unit *ℤ number)) }
 {
     match milliseconds(unit, number, MAX_AMOUNT) {
         Some(time) if number >= 1 => Ok(Expiry::After(time)),
@@ -53,7 +53,7 @@ pub fn life(unit: u16, number: i64) -> Result<Expiry, FaultKind>
 }
 
 pub fn after(unit: u16, number: i64) -> Result<Expiry, FaultKind>
-    ensures { Passes result (bad_after unit number) FaultKind.BadExpire (Expiry.After (pos unit *ℤ number)) }
+    ensures { ReadsWord result (bad_after unit number) FaultKind.BadExpire (Expiry.After (pos unit *ℤ number)) }
 {
     match milliseconds(unit, number, MAX_AMOUNT) {
         Some(time) => Ok(Expiry::After(time)),
@@ -62,7 +62,7 @@ pub fn after(unit: u16, number: i64) -> Result<Expiry, FaultKind>
 }
 
 pub fn until(unit: u16, number: i64) -> Result<Expiry, FaultKind>
-    ensures { Passes result (bad_until unit number) FaultKind.BadExpire (Expiry.At (pos unit *ℤ number)) }
+    ensures { ReadsWord result (bad_until unit number) FaultKind.BadExpire (Expiry.At (pos unit *ℤ number)) }
 {
     match milliseconds(unit, number, MAX_DEADLINE) {
         Some(time) => Ok(Expiry::At(time)),
@@ -71,7 +71,7 @@ pub fn until(unit: u16, number: i64) -> Result<Expiry, FaultKind>
 }
 
 pub fn key_at(word: Blob) -> Result<Key, FaultKind>
-    ensures { Passes result (is_long word) FaultKind.TooLong word }
+    ensures { ReadsWord result (is_long word) FaultKind.TooLong word }
 {
     match Key::new(word) {
         Ok(key) => Ok(key),
@@ -81,7 +81,7 @@ pub fn key_at(word: Blob) -> Result<Key, FaultKind>
 
 /// A field or a member.
 pub fn short(word: Blob) -> Result<Blob, FaultKind>
-    ensures { Passes result (is_long word) FaultKind.TooLong word }
+    ensures { ReadsWord result (is_long word) FaultKind.TooLong word }
 {
     if word.bytes().len() > MAX_KEY {
         return Err(FaultKind::TooLong);
@@ -90,7 +90,7 @@ pub fn short(word: Blob) -> Result<Blob, FaultKind>
 }
 
 pub fn int(word: &Blob) -> Result<i64, FaultKind>
-    ensures { Passes result (no_int word.now) FaultKind.NotInt (int_of word.now) }
+    ensures { ReadsWord result (no_int word.now) FaultKind.NotInt (int_of word.now) }
 {
     match read_int(word.bytes()) {
         Some(number) => Ok(number),
@@ -99,7 +99,7 @@ pub fn int(word: &Blob) -> Result<i64, FaultKind>
 }
 
 pub fn count(word: &Blob) -> Result<i64, FaultKind>
-    ensures { Passes result (no_count word.now) FaultKind.NotInt (int_of word.now) }
+    ensures { ReadsWord result (no_count word.now) FaultKind.NotInt (int_of word.now) }
 {
     match read_int(word.bytes()) {
         Some(number) if number >= 0 => Ok(number),
@@ -109,7 +109,7 @@ pub fn count(word: &Blob) -> Result<i64, FaultKind>
 
 /// A number that can be negated.
 pub fn negatable(word: &Blob) -> Result<i64, FaultKind>
-    ensures { Passes result (no_negatable word.now) FaultKind.NotInt (int_of word.now) }
+    ensures { ReadsWord result (no_negatable word.now) FaultKind.NotInt (int_of word.now) }
 {
     match read_int(word.bytes()) {
         Some(number) if number != i64::MIN => Ok(number),
@@ -118,7 +118,7 @@ pub fn negatable(word: &Blob) -> Result<i64, FaultKind>
 }
 
 pub fn score(word: &Blob) -> Result<i64, FaultKind>
-    ensures { Passes result (is_none (score_at word.now)) FaultKind.NotScore (said S word.now) }
+    ensures { ReadsWord result (is_none (score_at word.now)) FaultKind.NotScore (said S word.now) }
 {
     match read_score(word.bytes()) {
         Some(score) => Ok(score),
@@ -127,7 +127,7 @@ pub fn score(word: &Blob) -> Result<i64, FaultKind>
 }
 
 pub fn bound(word: &Blob) -> Result<Bound, FaultKind>
-    ensures { Passes result (is_none (bound_at word.now)) FaultKind.NotScore (said B word.now) }
+    ensures { ReadsWord result (is_none (bound_at word.now)) FaultKind.NotScore (said B word.now) }
 {
     match read_bound(word.bytes()) {
         Some(bound) => Ok(bound),
@@ -136,7 +136,7 @@ pub fn bound(word: &Blob) -> Result<Bound, FaultKind>
 }
 
 pub fn zero(number: i64) -> Result<i64, FaultKind>
-    ensures { Passes result (is_not_zero number) FaultKind.BadIndex number }
+    ensures { ReadsWord result (is_not_zero number) FaultKind.BadIndex number }
 {
     if number == 0 {
         Ok(0)

@@ -25,10 +25,22 @@ impl SessionName {
         ensures { result ≡ of_session self words }
     {
         match self {
-            SessionName::Multi => is_alone(&words).map(|()| Parsed::Multi),
-            SessionName::Exec => is_alone(&words).map(|()| Parsed::Exec),
-            SessionName::Discard => is_alone(&words).map(|()| Parsed::Discard),
-            SessionName::Quit => is_alone(&words).map(|()| Parsed::Quit),
+            SessionName::Multi => {
+                is_alone(&words)?;
+                Ok(Parsed::Multi)
+            }
+            SessionName::Exec => {
+                is_alone(&words)?;
+                Ok(Parsed::Exec)
+            }
+            SessionName::Discard => {
+                is_alone(&words)?;
+                Ok(Parsed::Discard)
+            }
+            SessionName::Quit => {
+                is_alone(&words)?;
+                Ok(Parsed::Quit)
+            }
             SessionName::Kvr => kvr(words.as_slice()),
         }
     }

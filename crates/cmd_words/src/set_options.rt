@@ -6,7 +6,7 @@ ghost use Rattle.cmd_words.specs.Options.{unit as unit_at, amount as amount_at, 
 use crate::case::is_word;
 use crate::counts::two_and_more;
 use crate::fault::FaultKind;
-use crate::places::{int, key_at, life};
+use crate::places::{int, key_at, time_to_live};
 use kv_base::{Blob, Blobs};
 use redis_model::{Command, Expiry, When};
 
@@ -36,7 +36,7 @@ fn amount(unit: u16, word: &Blob) -> Result<Expiry, FaultKind>
     ensures { result ≡ amount_at unit word.now }
 {
     let number = int(word)?;
-    life(unit, number)
+    time_to_live(unit, number)
 }
 
 impl SetOptions {

@@ -1,5 +1,5 @@
 ghost use Rattle.std.specs.Prelude.{◌≡◌};
-ghost use Rattle.cmd_words.specs.Reading.{Tells};
+ghost use Rattle.cmd_words.specs.Reading.{IsToldOrNoMem};
 ghost use Rattle.cmd_words.specs.Table.{of_sets};
 
 use crate::fault::FaultKind;
@@ -31,7 +31,7 @@ impl SetName {
     /// What the words behind this name are read into. They weigh so much together with it.
     #[tactic(auto, unfolding(crate::specs::Table::of_sets))]
     pub fn read(self, alloc: Global, words: Blobs, weight: u64) -> Result<Command, FaultKind>
-        ensures { Tells result (of_sets self weight words) }
+        ensures { IsToldOrNoMem result (of_sets self weight words) }
     {
         match self {
             SetName::SAdd => {

@@ -2,13 +2,13 @@
 //! The faults come in one order over all words: the lengths first, then numbers, then scores, then times.
 
 ghost use Rattle.std.specs.Prelude.{◌≡◌};
-ghost use Rattle.cmd_words.specs.Places.{K, V, F, M, N, S, B, D, Count, NotLeast, Zero, Life, After, Until};
+ghost use Rattle.cmd_words.specs.Places.{K, V, F, M, N, S, B, D, Count, NotLeast, Zero, TimeToLive, After, Until};
 ghost use Rattle.cmd_words.specs.Reading.{said1, said2, said3, said4};
 
 use crate::counts::{four_words, one, three, two};
 use crate::fault::FaultKind;
 use crate::places::{
-    after, bound, count, direction, int, key_at, life, negatable, score, short, until, zero,
+    after, bound, count, direction, int, key_at, negatable, score, short, time_to_live, until, zero,
 };
 use kv_base::{Blob, Blobs, Key};
 use redis_model::{Bound, End, Expiry};
@@ -120,13 +120,13 @@ pub fn key_until(words: Blobs, unit: u16) -> Result<(Key, Expiry), FaultKind>
 }
 
 #[tactic(auto, unfolding(crate::specs::Reading::said3))]
-pub fn key_life_value(words: Blobs, unit: u16) -> Result<(Key, Expiry, Blob), FaultKind>
-    ensures { result ≡ said3 K (Life unit) V words }
+pub fn key_time_to_live_value(words: Blobs, unit: u16) -> Result<(Key, Expiry, Blob), FaultKind>
+    ensures { result ≡ said3 K (TimeToLive unit) V words }
 {
     let (key, number, value) = three(words)?;
     let key = key_at(key)?;
     let number = int(&number)?;
-    let time = life(unit, number)?;
+    let time = time_to_live(unit, number)?;
     Ok((key, time, value))
 }
 

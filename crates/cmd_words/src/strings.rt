@@ -1,11 +1,11 @@
 ghost use Rattle.std.specs.Prelude.{◌≡◌};
-ghost use Rattle.cmd_words.specs.Reading.{Tells};
+ghost use Rattle.cmd_words.specs.Reading.{IsToldOrNoMem};
 ghost use Rattle.cmd_words.specs.Table.{of_strings};
 
 use crate::fault::FaultKind;
 use crate::many::{keys, keys_values};
 use crate::set_options::set;
-use crate::shapes::{key, key_int, key_int_int, key_life_value, key_negatable, key_value};
+use crate::shapes::{key, key_int, key_int_int, key_negatable, key_time_to_live_value, key_value};
 use kv_base::Blobs;
 use redis_model::Command;
 use std::alloc::Global;
@@ -35,7 +35,7 @@ impl StringName {
     /// What the words behind this name are read into. They weigh so much together with it.
     #[tactic(auto, unfolding(crate::specs::Table::of_strings))]
     pub fn read(self, alloc: Global, words: Blobs, weight: u64) -> Result<Command, FaultKind>
-        ensures { Tells result (of_strings self weight words) }
+        ensures { IsToldOrNoMem result (of_strings self weight words) }
     {
         match self {
             StringName::Get => Ok(Command::Get(key(words)?, weight)),
@@ -45,11 +45,11 @@ impl StringName {
                 Ok(Command::SetNx(key, value, weight))
             }
             StringName::SetEx => {
-                let (key, time, value) = key_life_value(words, 1000)?;
+                let (key, time, value) = key_time_to_live_value(words, 1000)?;
                 Ok(Command::SetEx(key, time, value, weight))
             }
             StringName::PSetEx => {
-                let (key, time, value) = key_life_value(words, 1)?;
+                let (key, time, value) = key_time_to_live_value(words, 1)?;
                 Ok(Command::PSetEx(key, time, value, weight))
             }
             StringName::GetSet => {

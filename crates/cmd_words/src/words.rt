@@ -1,7 +1,7 @@
 ghost use Rattle.std.specs.Prelude.{◌≡◌, ◌≤◌, IfOk};
 ghost use Rattle.redis_model.specs.Limits.{max_weight};
-ghost use Rattle.cmd_words.specs.Words.{weight_of, IsRequest};
-ghost use Rattle.cmd_words.specs.Parsed.{parsed_as, IsParsed, IsAsked};
+ghost use Rattle.cmd_words.specs.Words.{weight_of, AreRequestWords};
+ghost use Rattle.cmd_words.specs.Parsed.{parsed_as, IsParsed, IsAskable};
 
 use crate::fault::CommandFault;
 use crate::name::name_of;
@@ -26,9 +26,9 @@ fn weight(words: &[Blob]) -> u64
 /// Memory is taken for a list of keys, for pairs, and for the name that a fault is told with; `NoMem` may come in place of
 /// a data command and of a fault. What is no data command takes none.
 pub fn parse(alloc: Global, mut words: Blobs) -> Result<Parsed, CommandFault>
-    requires { IsRequest words }
+    requires { AreRequestWords words }
     ensures table { IsParsed result (parsed_as words) }
-    ensures within { IfOk result (λ parsed. IsAsked words parsed) }
+    ensures within { IfOk result (λ parsed. IsAskable words parsed) }
 {
     let weight = weight(words.as_slice());
     let first = words.remove(0);

@@ -4,7 +4,8 @@ use Rattle.std.proofs.lemmas.List.{drop_all, take-append-le}
 use Rattle.std.proofs.lemmas.Bool.{cases_lt}
 use Rattle.std.proofs.lemmas.Bool.Decides.{nat_tests}
 use Rattle.kv_base.specs.declared.name.FileName.{FileName}
-use Rattle.kv_base.specs.Name.{same_name, same_name_true, same_name_self}
+use Rattle.kv_base.specs.Name.{same_name}
+use Rattle.kv_base.specs.NameLaws.{same_name_true, same_name_self}
 use Rattle.kv_fakes.specs.declared.file.File.{File}
 use Rattle.kv_fakes.specs.Past.{written, own_or}
 use Rattle.kv_fakes.specs.Content.{content, place, SameContent, Rewrites}

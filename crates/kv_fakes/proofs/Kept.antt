@@ -6,15 +6,15 @@ use Rattle.kv_base.specs.declared.name.FileName.{FileName}
 use Rattle.kv_base.specs.Name.{same_name}
 use Rattle.kv_fakes.specs.declared.file.File.{File}
 use Rattle.kv_fakes.specs.declared.past.Change.{Change}
-use Rattle.kv_fakes.specs.declared.past.Kind.{Kind}
-use Rattle.kv_fakes.specs.declared.past.Kind.TheVariants.{Placed}
+use Rattle.kv_fakes.specs.declared.past.ChangeKind.{ChangeKind}
+use Rattle.kv_fakes.specs.declared.past.ChangeKind.TheVariants.{Placed}
 use Rattle.kv_fakes.specs.Past.{after, own_or, added, read_after}
 use Rattle.kv_fakes.specs.Content.{content, SameContent, Rewrites, Presents}
 use Rattle.kv_fakes.specs.Crash.{draw, reached, sound, spoilt, torn_bytes, is_settled, left_of, left_after}
 use Rattle.kv_fakes.proofs.Files.{rewrites_same, content_push}
 use Rattle.kv_fakes.proofs.Pushed.{read-push}
 
-pub presents_added : (files new_files : List File) (changes new : List Change) (name : FileName) (kind : Kind) → Presents files changes → Rewrites files new_files name (after kind) → new ≡ added changes name kind → Presents new_files new
+pub presents_added : (files new_files : List File) (changes new : List Change) (name : FileName) (kind : ChangeKind) → Presents files changes → Rewrites files new_files name (after kind) → new ≡ added changes name kind → Presents new_files new
 presents_added files new_files changes new name kind was made is = record {
   each = λ other.
       made.each other
@@ -22,7 +22,7 @@ presents_added files new_files changes new name kind was made is = record {
       ∙ sym (ap (λ (l : List Change). read_after l other []) is ∙ read-push changes (record { name = name; kind = kind }) other []);
 }
 
-pub presents_noted : (files : List File) (changes new : List Change) (name : FileName) (kind : Kind) → Presents files changes → ((old : List ℕ) → after kind old ≡ old) → new ≡ added changes name kind → Presents files new
+pub presents_noted : (files : List File) (changes new : List Change) (name : FileName) (kind : ChangeKind) → Presents files changes → ((old : List ℕ) → after kind old ≡ old) → new ≡ added changes name kind → Presents files new
 presents_noted files changes new name kind was kept is =
     presents_added files files changes new name kind was (rewrites_same files files name (after kind) kept (record { each = λ other. refl })) is
 

@@ -2,14 +2,15 @@
 use Rattle.std.proofs.Common.{◌≡◌, ◌≢◌, ℕ, ◌+◌, ◌<◌, ◌≤◌, Bool, true, false, List, [], ◌∷◌, ◌++◌, length, take, Some, refl, sym, ◌∙◌, ap, subst, arith, length-append}
 use Rattle.std.proofs.lemmas.List.{take_all, take-append-le}
 use Rattle.kv_base.specs.declared.name.FileName.{FileName}
-use Rattle.kv_base.specs.Name.{same_name, same_name_self, same_name_other}
+use Rattle.kv_base.specs.Name.{same_name}
+use Rattle.kv_base.specs.NameLaws.{same_name_self, same_name_other}
 use Rattle.kv_outside.specs.Disk.{GoesOn, NothingNew, Changes, Agrees, IsDurable}
 use Rattle.kv_outside.specs.Files.{Torn, Shortened, Purged}
 use Rattle.kv_fakes.specs.declared.past.Change.{Change}
-use Rattle.kv_fakes.specs.declared.past.Kind.{Kind}
-use Rattle.kv_fakes.specs.declared.past.Kind.TheVariants.{Written, Cut, Synced, Gone, Placed}
+use Rattle.kv_fakes.specs.declared.past.ChangeKind.{ChangeKind}
+use Rattle.kv_fakes.specs.declared.past.ChangeKind.TheVariants.{Written, Cut, Synced, Gone, Placed}
 use Rattle.kv_fakes.specs.Past.{after, own_or, added, read_after, ImageAfter, ImageIf, images_after, NotThere, disk_of}
-use Rattle.kv_fakes.specs.Images.{read_is_image, image_now}
+use Rattle.kv_fakes.specs.ImageLaws.{read_is_image, image_now}
 
 pub images-push : (changes : List Change) (change : Change) (name : FileName) (now : List ℕ) (Image : List ℕ → Type 0) (c : List ℕ)
     → images_after (changes ++ change ∷ []) name now Image c ≡ ImageIf (same_name change.name name) change.kind (read_after changes name now) (images_after changes name now Image) c
@@ -23,7 +24,7 @@ pub read-push : (changes : List Change) (change : Change) (name : FileName) (old
 read-push [] change name old = refl
 read-push (first ∷ changes) change name old = read-push changes change name (own_or (same_name first.name name) (after first.kind old) old)
 
-module _ (old new : List Change) (at : FileName) (kind : Kind) (is : new ≡ added old at kind) where
+module _ (old new : List Change) (at : FileName) (kind : ChangeKind) (is : new ≡ added old at kind) where
   more : length new ≡ length old + 1
   more = omega (arith, ap length is, length-append old (record { name = at; kind = kind } ∷ []))
 

@@ -6,8 +6,8 @@ use Rattle.kv_fakes.specs.Past.{written, after, own_or}
 use Rattle.kv_fakes.specs.declared.fate.Fate.{Fate}
 use Rattle.kv_fakes.specs.declared.fate.Fate.TheVariants.{Whole, Missing, Torn}
 use Rattle.kv_fakes.specs.declared.past.Change.{Change}
-use Rattle.kv_fakes.specs.declared.past.Kind.{Kind}
-use Rattle.kv_fakes.specs.declared.past.Kind.TheVariants.{Written, Cut, Synced, Gone, Placed}
+use Rattle.kv_fakes.specs.declared.past.ChangeKind.{ChangeKind}
+use Rattle.kv_fakes.specs.declared.past.ChangeKind.TheVariants.{Written, Cut, Synced, Gone, Placed}
 
 -- the number drawn after this one, by Knuth's linear congruential generator for 64 bits
 unfoldable pub draw : ℕ → ℕ
@@ -53,7 +53,7 @@ struck_or Missing new old = old
 struck_or Torn new old = old
 
 -- what a crash leaves of a change that was not durable. One whose call failed may have reached the disk all the same.
-abbrev pub struck : ℕ → Kind → List ℕ → List ℕ
+abbrev pub struck : ℕ → ChangeKind → List ℕ → List ℕ
 struck number (Written at bytes done) old = struck_write (fate number) number at bytes old
 struck number (Cut len done) old = struck_or (fate number) (take len old) old
 struck number Synced old = old
@@ -61,7 +61,7 @@ struck number Gone old = struck_or (fate number) [] old
 struck number (Placed bytes) old = bytes
 
 -- a change that makes its file durable
-abbrev pub settles : Kind → Bool
+abbrev pub settles : ChangeKind → Bool
 settles (Written at bytes done) = false
 settles (Cut len done) = false
 settles Synced = true
@@ -74,7 +74,7 @@ is_settled [] name = false
 is_settled (change ∷ changes) name = (same_name change.name name && settles change.kind) || is_settled changes name
 
 -- a change that was made durable is there, and of another what the number leaves of it
-abbrev pub left_of : Bool → ℕ → Kind → List ℕ → List ℕ
+abbrev pub left_of : Bool → ℕ → ChangeKind → List ℕ → List ℕ
 left_of true number kind old = after kind old
 left_of false number kind old = struck number kind old
 

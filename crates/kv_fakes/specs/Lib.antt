@@ -3,6 +3,6 @@ pub mod Source
 pub mod Sink
 pub mod Past
 pub mod Crash
-pub mod Images
+pub mod ImageLaws
 pub mod Content
 pub mod MemDisk

@@ -5,7 +5,7 @@ use Rattle.kv_fakes.specs.declared.disk.MemDisk.{MemDisk}
 use Rattle.kv_fakes.specs.declared.log.MemLog.{MemLog}
 use Rattle.kv_fakes.specs.declared.log.MemSealed.{MemSealed}
 use Rattle.kv_fakes.specs.declared.past.Change.{Change}
-use Rattle.kv_fakes.specs.declared.past.Kind.{Kind}
+use Rattle.kv_fakes.specs.declared.past.ChangeKind.{ChangeKind}
 use Rattle.kv_fakes.specs.Tally.{Tally}
 use Rattle.kv_fakes.specs.Past.{added}
 
@@ -32,5 +32,5 @@ abbrev pub sealed_in : MemSealed → List ℕ
 sealed_in file = file.bytes.items
 
 -- what a call that fails leaves of the record: this change as tried, or nothing
-abbrev pub Tries : List Change → List Change → FileName → Kind → Type 0
-Tries old new name kind = (new ≡ old) ⊎ (new ≡ added old name kind)
+abbrev pub TriesChange : List Change → List Change → FileName → ChangeKind → Type 0
+TriesChange old new name kind = (new ≡ old) ⊎ (new ≡ added old name kind)

@@ -5,8 +5,8 @@ use Rattle.kv_base.specs.Name.{same_name}
 use Rattle.kv_outside.specs.Disk.{Disk}
 use Rattle.kv_outside.specs.Files.{Torn, Shortened, Purged}
 use Rattle.kv_fakes.specs.declared.past.Change.{Change}
-use Rattle.kv_fakes.specs.declared.past.Kind.{Kind}
-use Rattle.kv_fakes.specs.declared.past.Kind.TheVariants.{Written, Cut, Synced, Gone, Placed}
+use Rattle.kv_fakes.specs.declared.past.ChangeKind.{ChangeKind}
+use Rattle.kv_fakes.specs.declared.past.ChangeKind.TheVariants.{Written, Cut, Synced, Gone, Placed}
 
 -- ---- what a file reads as
 
@@ -15,7 +15,7 @@ abbrev pub written : ℕ → List ℕ → List ℕ → List ℕ
 written at bytes old = if nat_le at (length old) then take at old ++ bytes ++ drop (at + length bytes) old else old
 
 -- what a file holds after a change of it
-abbrev pub after : Kind → List ℕ → List ℕ
+abbrev pub after : ChangeKind → List ℕ → List ℕ
 after (Written at bytes true) old = written at bytes old
 after (Written at bytes false) old = old
 after (Cut len true) old = take len old
@@ -35,14 +35,14 @@ read_after [] name old = old
 read_after (change ∷ changes) name old = read_after changes name (own_or (same_name change.name name) (after change.kind old) old)
 
 -- the record with one change more
-abbrev pub added : List Change → FileName → Kind → List Change
+abbrev pub added : List Change → FileName → ChangeKind → List Change
 added changes name kind = changes ++ record { name = name; kind = kind } ∷ []
 
 -- ---- what a crash may leave of it
 
 -- An image after a change of the file, which reads as `now`, from the images before it: what was written or cut may be
 -- torn, a purge may not be carried out, and what is durable is as it reads.
-abbrev pub ImageAfter : Kind → List ℕ → (List ℕ → Type 0) → List ℕ → Type 0
+abbrev pub ImageAfter : ChangeKind → List ℕ → (List ℕ → Type 0) → List ℕ → Type 0
 ImageAfter (Written at bytes done) now Image c = (d : List ℕ) × Image d × Torn at (length bytes) d c
 ImageAfter (Cut len done) now Image c = (d : List ℕ) × Image d × Shortened len d c
 ImageAfter Synced now Image c = c ≡ now
@@ -50,7 +50,7 @@ ImageAfter Gone now Image c = (d : List ℕ) × Image d × Purged d c
 ImageAfter (Placed bytes) now Image c = c ≡ bytes
 
 -- the same of any file: the images of others are what they were
-abbrev pub ImageIf : Bool → Kind → List ℕ → (List ℕ → Type 0) → List ℕ → Type 0
+abbrev pub ImageIf : Bool → ChangeKind → List ℕ → (List ℕ → Type 0) → List ℕ → Type 0
 ImageIf true kind now Image c = ImageAfter kind now Image c
 ImageIf false kind now Image c = Image c
 

@@ -6,7 +6,7 @@ ghost use Rattle.kv_fakes.specs.Crash.{draw, reached, sound, spoilt, torn_bytes,
 
 use crate::fate::Fate;
 use crate::file::{File, cut_file, place_file, write_file};
-use crate::past::{Change, Kind};
+use crate::past::{Change, ChangeKind};
 use kv_base::{Blob, FileName, NoMem};
 use std::alloc::Global;
 
@@ -21,12 +21,12 @@ fn draw(number: u64) -> u64
 }
 
 /// Does a change of this kind make its file durable?
-fn settles(kind: &Kind) -> bool
+fn settles(kind: &ChangeKind) -> bool
     ensures { result ≡ settles kind.now }
 {
     match kind {
-        Kind::Written { .. } | Kind::Cut { .. } | Kind::Gone => false,
-        Kind::Synced | Kind::Placed { .. } => true,
+        ChangeKind::Written { .. } | ChangeKind::Cut { .. } | ChangeKind::Gone => false,
+        ChangeKind::Synced | ChangeKind::Placed { .. } => true,
     }
 }
 
@@ -90,19 +90,19 @@ fn redo(alloc: Global, files: &mut Vec<File>, change: &Change) -> Result<(), NoM
 {
     let name = change.name;
     match &change.kind {
-        Kind::Written { at, bytes, done } => {
+        ChangeKind::Written { at, bytes, done } => {
             if *done {
                 write_file(alloc, files, name, *at as usize, bytes.bytes())?;
             }
         }
-        Kind::Cut { len, done } => {
+        ChangeKind::Cut { len, done } => {
             if *done {
                 cut_file(files, name, *len as usize);
             }
         }
-        Kind::Synced => {}
-        Kind::Gone => cut_file(files, name, 0),
-        Kind::Placed { bytes } => place_copy(alloc, files, name, bytes)?,
+        ChangeKind::Synced => {}
+        ChangeKind::Gone => cut_file(files, name, 0),
+        ChangeKind::Placed { bytes } => place_copy(alloc, files, name, bytes)?,
     }
     Ok(())
 }
@@ -126,19 +126,19 @@ fn strike(alloc: Global, files: &mut Vec<File>, change: &Change, number: u64) ->
 {
     let name = change.name;
     match &change.kind {
-        Kind::Written { at, bytes, .. } => {
+        ChangeKind::Written { at, bytes, .. } => {
             strike_write(alloc, files, name, *at as usize, bytes.bytes(), number)
         }
-        Kind::Cut { len, .. } => {
+        ChangeKind::Cut { len, .. } => {
             strike_cut(files, name, *len as usize, number);
             Ok(())
         }
-        Kind::Synced => Ok(()),
-        Kind::Gone => {
+        ChangeKind::Synced => Ok(()),
+        ChangeKind::Gone => {
             strike_cut(files, name, 0, number);
             Ok(())
         }
-        Kind::Placed { bytes } => place_copy(alloc, files, name, bytes),
+        ChangeKind::Placed { bytes } => place_copy(alloc, files, name, bytes),
     }
 }
 

@@ -6,14 +6,14 @@ ghost use Rattle.kv_outside.specs.Disk.{Disk, Agrees, IsDurable, NothingNew, Cha
 ghost use Rattle.kv_outside.specs.Files.{Goes, Torn, Shortened, IsGone, Purged, ReadsFrom};
 ghost use Rattle.kv_fakes.specs.Tally.{Counts, IsListed};
 ghost use Rattle.kv_fakes.specs.Past.{written, after, added, read_after, disk_of};
-ghost use Rattle.kv_fakes.specs.Images.{reads_law};
+ghost use Rattle.kv_fakes.specs.ImageLaws.{reads_law};
 ghost use Rattle.kv_fakes.specs.Crash.{left_after};
 
 use crate::Calls;
 use crate::failures::Failures;
+use crate::journal::Journal;
 use crate::log::{MemLog, MemSealed, copy_from, shorten, write};
-use crate::past::Kind;
-use crate::record::Record;
+use crate::past::ChangeKind;
 use kv_base::{Blob, FileName, NoMem};
 use kv_outside::{Failed, Files};
 use std::alloc::Global;
@@ -25,7 +25,7 @@ const MAX_LEN: u64 = 1 << 63;
 #[derive(Drop)]
 pub struct MemDisk {
     alloc: Global,
-    past: Record,
+    past: Journal,
     calls: Failures,
 }
 
@@ -41,7 +41,7 @@ impl MemDisk {
     {
         MemDisk {
             alloc,
-            past: Record::new(alloc),
+            past: Journal::new(alloc),
             calls: Failures::new(fails),
         }
     }
@@ -49,7 +49,7 @@ impl MemDisk {
     /// Puts a file there, durable, in place of the one of that name. It is no call that is counted or that fails, and
     /// where there is no memory nothing changes.
     pub fn put(&mut self, name: FileName, bytes: Blob) -> Result<(), NoMem>
-        ensures put { OnOk result (changes_of self.new ≡ added (changes_of self.old) name (Kind.Placed bytes)) }
+        ensures put { OnOk result (changes_of self.new ≡ added (changes_of self.old) name (ChangeKind.Placed bytes)) }
         ensures kept { OnErr result (changes_of self.new ≡ changes_of self.old) }
         ensures calls { calls_of self.new ≡ calls_of self.old }
         ensures reads { OnOk result ((disk_of (changes_of self.new)).reads name ≡ Some bytes) }
@@ -86,7 +86,7 @@ impl MemDisk {
 }
 
 impl Files for MemDisk {
-    ghost use Rattle.kv_fakes.specs.MemDisk.{changes_of, calls_of, name_in, bytes_in, sealed_in, IsSynced, Tries};
+    ghost use Rattle.kv_fakes.specs.MemDisk.{changes_of, calls_of, name_in, bytes_in, sealed_in, IsSynced, TriesChange};
 
     type Log = MemLog;
 
@@ -171,8 +171,8 @@ impl Files for MemDisk {
         ensures limit { OnOk result (at + length bytes.now ≤ 2 ^ 63) }
         ensures name { name_in log.new ≡ name_in log.old }
         ensures agrees { Agrees (disk_of (changes_of self.old)) (name_in log.old) (Some (bytes_in log.old)) → Agrees (disk_of (changes_of self.new)) (name_in log.old) (Some (bytes_in log.new)) }
-        ensures done { OnOk result (changes_of self.new ≡ added (changes_of self.old) (name_in log.old) (Kind.Written at bytes.now true)) }
-        ensures tried { OnErr result (Tries (changes_of self.old) (changes_of self.new) (name_in log.old) (Kind.Written at bytes.now false)) }
+        ensures done { OnOk result (changes_of self.new ≡ added (changes_of self.old) (name_in log.old) (ChangeKind.Written at bytes.now true)) }
+        ensures tried { OnErr result (TriesChange (changes_of self.old) (changes_of self.new) (name_in log.old) (ChangeKind.Written at bytes.now false)) }
         ensures disk { Changes (name_in log.old) (Torn at (length bytes.now)) (disk_of (changes_of self.old)) (disk_of (changes_of self.new)) }
         ensures cause { HasCause (calls_of self.old).failed (calls_of self.new).failed result }
         ensures counts { Counts (calls_of self.old) (calls_of self.new) result }
@@ -201,8 +201,8 @@ impl Files for MemDisk {
         ensures kept { OnErr result (bytes_in log.new ≡ bytes_in log.old) }
         ensures name { name_in log.new ≡ name_in log.old }
         ensures agrees { Agrees (disk_of (changes_of self.old)) (name_in log.old) (Some (bytes_in log.old)) → Agrees (disk_of (changes_of self.new)) (name_in log.old) (Some (bytes_in log.new)) }
-        ensures done { OnOk result (changes_of self.new ≡ added (changes_of self.old) (name_in log.old) (Kind.Cut len true)) }
-        ensures tried { OnErr result (Tries (changes_of self.old) (changes_of self.new) (name_in log.old) (Kind.Cut len false)) }
+        ensures done { OnOk result (changes_of self.new ≡ added (changes_of self.old) (name_in log.old) (ChangeKind.Cut len true)) }
+        ensures tried { OnErr result (TriesChange (changes_of self.old) (changes_of self.new) (name_in log.old) (ChangeKind.Cut len false)) }
         ensures disk { Changes (name_in log.old) (Shortened len) (disk_of (changes_of self.old)) (disk_of (changes_of self.new)) }
         ensures cause { HasCause (calls_of self.old).failed (calls_of self.new).failed result }
         ensures counts { Counts (calls_of self.old) (calls_of self.new) result }
@@ -226,7 +226,7 @@ impl Files for MemDisk {
         ensures synced { OnOk result (IsSynced log.new) }
         ensures bytes { bytes_in log.new ≡ bytes_in log.old }
         ensures name { name_in log.new ≡ name_in log.old }
-        ensures done { OnOk result (changes_of self.new ≡ added (changes_of self.old) (name_in log.old) Kind.Synced) }
+        ensures done { OnOk result (changes_of self.new ≡ added (changes_of self.old) (name_in log.old) ChangeKind.Synced) }
         ensures kept { OnErr result (changes_of self.new ≡ changes_of self.old) }
         ensures disk { NothingNew (disk_of (changes_of self.old)) (disk_of (changes_of self.new)) }
         ensures cause { HasCause (calls_of self.old).failed (calls_of self.new).failed result }
@@ -235,7 +235,7 @@ impl Files for MemDisk {
         if self.calls.turn() {
             return Err(self.calls.fail());
         }
-        match self.past.note(log.name, Kind::Synced) {
+        match self.past.note(log.name, ChangeKind::Synced) {
             Ok(()) => {
                 log.synced = true;
                 Ok(())
@@ -281,8 +281,8 @@ impl Files for MemDisk {
     fn purge(&mut self, name: FileName) -> Result<(), Failed>
         ensures gone { OnOk result (Goes IsGone (Some (read_after (changes_of self.old) name [])) (Some (read_after (changes_of self.new) name []))) }
         ensures torn { Goes Purged (Some (read_after (changes_of self.old) name [])) (Some (read_after (changes_of self.new) name [])) }
-        ensures done { OnOk result (changes_of self.new ≡ added (changes_of self.old) name Kind.Gone) }
-        ensures tried { OnErr result (Tries (changes_of self.old) (changes_of self.new) name Kind.Gone) }
+        ensures done { OnOk result (changes_of self.new ≡ added (changes_of self.old) name ChangeKind.Gone) }
+        ensures tried { OnErr result (TriesChange (changes_of self.old) (changes_of self.new) name ChangeKind.Gone) }
         ensures disk { Changes name Purged (disk_of (changes_of self.old)) (disk_of (changes_of self.new)) }
         ensures cause { HasCause (calls_of self.old).failed (calls_of self.new).failed result }
         ensures counts { Counts (calls_of self.old) (calls_of self.new) result }

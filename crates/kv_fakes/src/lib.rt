@@ -9,19 +9,17 @@ mod disk;
 mod failures;
 mod fate;
 mod file;
+mod journal;
 mod log;
 mod past;
-mod record;
 mod sink;
 mod source;
-#[cfg(test)]
-mod tests;
 
 pub use clock::MemClock;
 pub use disk::MemDisk;
 use kv_base::Items;
 pub use log::{MemLog, MemSealed};
-pub use past::{Change, Kind};
+pub use past::{Change, ChangeKind};
 pub use sink::MemSink;
 pub use source::MemSource;
 

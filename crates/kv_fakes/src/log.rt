@@ -5,8 +5,8 @@ ghost use Rattle.kv_outside.specs.Files.{Goes, Torn, Shortened, ReadsFrom};
 ghost use Rattle.kv_fakes.specs.Past.{written, after, added, disk_of};
 
 use crate::file::{overwrite, stretch};
-use crate::past::Kind;
-use crate::record::Record;
+use crate::journal::Journal;
+use crate::past::ChangeKind;
 use kv_base::{Blob, FileName, NoMem};
 use std::alloc::Global;
 
@@ -41,14 +41,14 @@ pub fn copy_from(bytes: &[u8], at: u64, out: &mut [u8]) -> usize
 /// Writes to a log and to its disk, or to neither.
 fn write_both(
     alloc: Global,
-    past: &mut Record,
+    past: &mut Journal,
     log: &mut MemLog,
     at: u64,
     piece: &[u8],
 ) -> Result<(), NoMem>
     requires { at ≤ length log.old.bytes.items }
     ensures bytes { OnOk result (log.new.bytes.items ≡ written at piece.now log.old.bytes.items) }
-    ensures added { OnOk result (past.new ≡ added past.old log.old.name (Kind.Written at piece.now true)) }
+    ensures added { OnOk result (past.new ≡ added past.old log.old.name (ChangeKind.Written at piece.now true)) }
     ensures kept { OnErr result (log.new.bytes.items ≡ log.old.bytes.items) }
     ensures none { OnErr result (past.new ≡ past.old) }
     ensures name { log.new.name ≡ log.old.name }
@@ -70,31 +70,31 @@ fn write_both(
 /// Records a write that failed.
 fn try_write(
     alloc: Global,
-    past: &mut Record,
+    past: &mut Journal,
     name: FileName,
     at: u64,
     piece: &[u8],
 ) -> Result<(), NoMem>
-    ensures added { OnOk result (past.new ≡ added past.old name (Kind.Written at piece.now false)) }
+    ensures added { OnOk result (past.new ≡ added past.old name (ChangeKind.Written at piece.now false)) }
     ensures none { OnErr result (past.new ≡ past.old) }
 {
     let bytes = Blob::copy(alloc, piece)?;
     let done = false;
-    past.note(name, Kind::Written { at, bytes, done })
+    past.note(name, ChangeKind::Written { at, bytes, done })
 }
 
 /// Writes to a log and to its disk, or where the write is to fail records that it was tried.
 pub fn write(
     alloc: Global,
-    past: &mut Record,
+    past: &mut Journal,
     log: &mut MemLog,
     at: u64,
     piece: &[u8],
     done: bool,
 ) -> Result<(), NoMem>
     requires { at ≤ length log.old.bytes.items }
-    ensures bytes { OnOk result (log.new.bytes.items ≡ after (Kind.Written at piece.now done) log.old.bytes.items) }
-    ensures added { OnOk result (past.new ≡ added past.old log.old.name (Kind.Written at piece.now done)) }
+    ensures bytes { OnOk result (log.new.bytes.items ≡ after (ChangeKind.Written at piece.now done) log.old.bytes.items) }
+    ensures added { OnOk result (past.new ≡ added past.old log.old.name (ChangeKind.Written at piece.now done)) }
     ensures kept { OnErr result (log.new.bytes.items ≡ log.old.bytes.items) }
     ensures none { OnErr result (past.new ≡ past.old) }
     ensures name { log.new.name ≡ log.old.name }
@@ -111,9 +111,9 @@ pub fn write(
 }
 
 /// Cuts a log and its file, or where the cut is to fail records that it was tried.
-pub fn shorten(past: &mut Record, log: &mut MemLog, len: u64, done: bool) -> Result<(), NoMem>
-    ensures bytes { OnOk result (log.new.bytes.items ≡ after (Kind.Cut len done) log.old.bytes.items) }
-    ensures added { OnOk result (past.new ≡ added past.old log.old.name (Kind.Cut len done)) }
+pub fn shorten(past: &mut Journal, log: &mut MemLog, len: u64, done: bool) -> Result<(), NoMem>
+    ensures bytes { OnOk result (log.new.bytes.items ≡ after (ChangeKind.Cut len done) log.old.bytes.items) }
+    ensures added { OnOk result (past.new ≡ added past.old log.old.name (ChangeKind.Cut len done)) }
     ensures kept { OnErr result (log.new.bytes.items ≡ log.old.bytes.items) }
     ensures none { OnErr result (past.new ≡ past.old) }
     ensures name { log.new.name ≡ log.old.name }
@@ -127,6 +127,6 @@ pub fn shorten(past: &mut Record, log: &mut MemLog, len: u64, done: bool) -> Res
         log.bytes.truncate(len as usize);
         Ok(())
     } else {
-        past.note(log.name, Kind::Cut { len, done: false })
+        past.note(log.name, ChangeKind::Cut { len, done: false })
     }
 }

@@ -6,12 +6,12 @@ pub struct Change {
     /// The file.
     pub name: FileName,
     /// What was done to it.
-    pub kind: Kind,
+    pub kind: ChangeKind,
 }
 
 /// What a call did to a file, or tried to do.
 #[derive(Drop)]
-pub enum Kind {
+pub enum ChangeKind {
     /// Bytes were written at a place, unless the call failed.
     Written { at: u64, bytes: Blob, done: bool },
     /// The file was cut to a length, unless the call failed.

@@ -12,6 +12,6 @@ pub record OpenFile : Type 0 where
   pub lost : Bool
 
 -- what was written is durable, and so is the name
-pub record IsSynced (file : OpenFile) : Type 0 where
+pub record IsOnDisk (file : OpenFile) : Type 0 where
   pub clean : file.dirty ≡ false
   pub named : file.named ≡ true

@@ -24,11 +24,6 @@ impl Faults {
         Faults { count: 0 }
     }
 
-    #[cfg(test)]
-    pub(crate) fn count(&self) -> u64 {
-        self.count
-    }
-
     /// Counts a fault.
     pub(crate) fn add(&mut self) -> Failed
         ensures later { self.old ≤ self.new }

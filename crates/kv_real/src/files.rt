@@ -1,6 +1,7 @@
 ghost use Rattle.std.specs.Prelude.{◌≡◌, ◌↔◌, None, true, IsErr};
-ghost use Rattle.kv_outside.specs.Disk.{untold, untold_law};
-ghost use Rattle.kv_real.specs.RealLog.{IsSynced};
+ghost use Rattle.kv_outside.specs.Disk.{untold};
+ghost use Rattle.kv_outside.specs.DiskLaws.{untold_law};
+ghost use Rattle.kv_real.specs.RealLog.{IsOnDisk};
 
 use crate::faults::Faults;
 use crate::folder::{open_file, remove_file, sync_folder};
@@ -124,7 +125,7 @@ impl<R: fs::Files<File = File> + Drop> Files for RealFiles<R> {
 
     ghost bytes_of = { λ _. None };
 
-    ghost is_synced = { IsSynced };
+    ghost is_synced = { IsOnDisk };
 
     ghost sealed_bytes = { λ _. None };
 
@@ -195,6 +196,3 @@ impl<R: fs::Files<File = File> + Drop> Files for RealFiles<R> {
 
     ghost reads_is_image = { λ files name bytes is. untold_law name bytes is };
 }
-
-#[cfg(test)]
-mod tests;

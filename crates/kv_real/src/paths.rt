@@ -18,28 +18,3 @@ pub(crate) fn path_of(alloc: Global, folder: &str, name: FileName) -> Result<Str
     };
     Ok(path)
 }
-
-#[cfg(test)]
-mod tests {
-    use super::*;
-    use std::test::Fail;
-
-    #[test]
-    fn names_files(rt: HostRuntime) -> Result<(), Fail> {
-        let table = FileName::Table(TableId { run: 12, part: 0 });
-        let names = [
-            (FileName::SlotA, "/srv/store/slot-a"),
-            (FileName::SlotB, "/srv/store/slot-b"),
-            (FileName::Segment(7), "/srv/store/wal-7"),
-            (
-                FileName::Segment(u64::MAX),
-                "/srv/store/wal-18446744073709551615",
-            ),
-            (table, "/srv/store/t-12-0"),
-        ];
-        for (name, path) in names {
-            assert_eq!(rt; path_of(rt.alloc(), "/srv/store", name)?.as_str(), path);
-        }
-        Ok(())
-    }
-}

@@ -11,15 +11,15 @@ abbrev pub Ends : Wanted → Ending → Type 0
 Ends wanted ending = Contains wanted.statuses ending.status × Contains wanted.outputs ending.sink.bytes
 
 -- after these changes the file holds this content, and each file its own
-abbrev pub Holds : List Change → Content → Type 0
-Holds changes content = read_after changes content.name [] ≡ content.bytes.items
+abbrev pub HasContent : List Change → Content → Type 0
+HasContent changes content = read_after changes content.name [] ≡ content.bytes.items
 
 abbrev pub Hold : List Change → List Content → Type 0
-Hold changes contents = All (Holds changes) contents
+Hold changes contents = All (HasContent changes) contents
 
 -- a run with this ending and these changes of the files came to what is wanted
-abbrev pub Agrees : Wanted → List Content → Ending → List Change → Type 0
-Agrees wanted contents ending changes = Ends wanted ending × Hold changes contents
+abbrev pub AsWanted : Wanted → List Content → Ending → List Change → Type 0
+AsWanted wanted contents ending changes = Ends wanted ending × Hold changes contents
 
 -- the content of that file with these records in the place of its last byte
 abbrev pub IsWith : List Change → Content → Content → Type 0

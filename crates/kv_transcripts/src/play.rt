@@ -2,7 +2,7 @@
 
 ghost use Rattle.std.specs.Prelude.{◌≡◌, ◌↔◌, take, drop, Contains, IsTrue, IsNone, IfOk};
 ghost use Rattle.kv_fakes.specs.MemDisk.{changes_of};
-ghost use Rattle.kv_transcripts.specs.Agreement.{Agrees, Ends, Holds, Hold, IsWith};
+ghost use Rattle.kv_transcripts.specs.Agreement.{AsWanted, Ends, HasContent, Hold, IsWith};
 
 use crate::fault::Fault;
 use crate::run::{Begin, Content, Run, Setting, Talk, Wanted};
@@ -122,7 +122,7 @@ fn disagreement(
     ending: &Ending,
     files: &MemDisk,
 ) -> Result<Option<String>, AllocError>
-    ensures { IfOk result (λ finding. IsNone finding ↔ Agrees wanted.now contents.now ending.now (changes_of files.now)) }
+    ensures { IfOk result (λ finding. IsNone finding ↔ AsWanted wanted.now contents.now ending.now (changes_of files.now)) }
 {
     match disagreeing_ending(alloc, wanted, ending)? {
         Some(finding) => Ok(Some(finding)),
@@ -193,7 +193,7 @@ fn disagreeing_file(
 
 /// Does the file hold this content?
 fn is_held(content: &Content, files: &MemDisk) -> bool
-    ensures { IsTrue result ↔ Holds (changes_of files.now) content.now }
+    ensures { IsTrue result ↔ HasContent (changes_of files.now) content.now }
 {
     files.bytes(content.name) == content.bytes.as_slice()
 }

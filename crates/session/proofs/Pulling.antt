@@ -5,8 +5,9 @@ use Rattle.std.proofs.lemmas.List.{append-nil, length-take, nil_from_length}
 use Rattle.std.proofs.lemmas.Bool.Decides.{nat_tests}
 use Rattle.std.specs.Io.KnownBytes.{Consumes, IsAtEnd, Keeps}
 use Rattle.kv_base.specs.Map.{Bytes}
-use Rattle.kv_outside.specs.Causes.{Rose, rose_since}
-use Rattle.kv_outside.specs.Taken.{kept_taken}
+use Rattle.kv_outside.specs.Causes.{Rose}
+use Rattle.kv_outside.specs.CauseLaws.{rose_since}
+use Rattle.kv_outside.specs.TakenLaws.{kept_taken}
 use Rattle.resp_wire.specs.Reading.{IsUnfinished}
 use Rattle.session.specs.declared.session.Outcome.{Outcome}
 use Rattle.session.specs.declared.session.Outcome.TheVariants as outcome

@@ -3,16 +3,19 @@ use Rattle.std.proofs.Common.{◌≡◌, ◌≤◌, ◌+◌, ◌-◌, ◌^◌, i
 use Rattle.std.proofs.lemmas.List.{append-nil, length-append, nil_from_length}
 use Rattle.std.specs.Io.KnownBytes.{Appends, Consumes, IsAtEnd}
 use Rattle.kv_base.specs.Map.{Bytes}
-use Rattle.kv_outside.specs.Causes.{Rose, rose_since}
-use Rattle.kv_outside.specs.Sent.{nothing_sent, sent_then}
-use Rattle.kv_outside.specs.Taken.{taken_then, nothing_taken}
-use Rattle.kv_outside.specs.Writing.{AppendsFront, front_after}
+use Rattle.kv_outside.specs.Causes.{Rose}
+use Rattle.kv_outside.specs.CauseLaws.{rose_since}
+use Rattle.kv_outside.specs.SentLaws.{nothing_sent, sent_then}
+use Rattle.kv_outside.specs.TakenLaws.{taken_then, nothing_taken}
+use Rattle.kv_outside.specs.Writing.{AppendsFront}
+use Rattle.kv_outside.specs.WritingLaws.{front_after}
 use Rattle.redis_model.specs.DeskState.{DeskState}
 use Rattle.resp_wire.specs.declared.fault.WireFault.TheVariants.{Cut}
 use Rattle.resp_wire.specs.Fault.{fault_of, fault_line as wire_line}
 use Rattle.resp_wire.specs.Grammar.{End, Whole, Open, Fault, requests, requests_within, open_end}
 use Rattle.resp_wire.specs.Reading.{IsUnfinished}
-use Rattle.resp_wire.specs.Holding.{Holds, holds_then, holds_fed, holds_unfinished, holds_faulty}
+use Rattle.resp_wire.specs.Holding.{HoldsRequests}
+use Rattle.resp_wire.specs.HoldingLaws.{holds_then, holds_fed, holds_unfinished, holds_faulty}
 use Rattle.session.specs.declared.serve.Stopped.{Stopped}
 use Rattle.session.specs.declared.serve.Stopped.TheVariants as stopped
 use Rattle.session.specs.declared.session.Outcome.{Outcome}
@@ -47,11 +50,11 @@ unfolding requests requests_within
 nothing_unfinished = refl
 
 -- the requests served so far, and those served now, where a piece was read between them
-together : (taken piece rest fed behind : Bytes) (served more : List (List Bytes)) → Holds taken served rest → fed ≡ rest ++ piece → Holds fed more behind → Holds (taken ++ piece) (served ++ more) behind
+together : (taken piece rest fed behind : Bytes) (served more : List (List Bytes)) → HoldsRequests taken served rest → fed ≡ rest ++ piece → HoldsRequests fed more behind → HoldsRequests (taken ++ piece) (served ++ more) behind
 together taken piece rest fed behind served more p e q =
-    holds_then (taken ++ piece) served (rest ++ piece) more behind (holds_fed taken served rest piece p) (subst (λ (x : Bytes). Holds x more behind) e q)
+    holds_then (taken ++ piece) served (rest ++ piece) more behind (holds_fed taken served rest piece p) (subst (λ (x : Bytes). HoldsRequests x more behind) e q)
 
-first_of : (a b : Bytes) (served : List (List Bytes)) → Holds a served b → AreFirst served (requests a).0
+first_of : (a b : Bytes) (served : List (List Bytes)) → HoldsRequests a served b → AreFirst served (requests a).0
 first_of a b served p = ((requests (b ++ [])).0, ap (λ (x : List (List Bytes) × End). x.0) (ap requests (sym (append-nil a)) ∙ p []))
 
 rest_end : (rest : Bytes) → IsUnfinished rest → (requests rest).1 ≡ open_end rest

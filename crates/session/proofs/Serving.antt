@@ -2,11 +2,13 @@
 use Rattle.std.proofs.Common.{◌≡◌, ◌≤◌, ◌<◌, ℕ, true, false, ◌∙◌, List, [], ◌∷◌, ◌++◌, length, Option, Ok, Err, refl, sym, subst}
 use Rattle.std.proofs.lemmas.List.{append-nil}
 use Rattle.kv_base.specs.Map.{Bytes}
-use Rattle.kv_outside.specs.Causes.{Rose, rose_since}
+use Rattle.kv_outside.specs.Causes.{Rose}
+use Rattle.kv_outside.specs.CauseLaws.{rose_since}
 use Rattle.kv_outside.specs.Writing.{AppendsFront}
 use Rattle.redis_model.specs.DeskState.{DeskState}
-use Rattle.resp_wire.specs.Reading.{Reads, IsUnfinished}
-use Rattle.resp_wire.specs.Holding.{Holds, holds_here, holds_one, holds_skip, holds_then}
+use Rattle.resp_wire.specs.Reading.{ReadsRequest, IsUnfinished}
+use Rattle.resp_wire.specs.Holding.{HoldsRequests}
+use Rattle.resp_wire.specs.HoldingLaws.{holds_here, holds_one, holds_skip, holds_then}
 use Rattle.session.specs.declared.answer.Answer.{Answer}
 use Rattle.session.specs.declared.serve.Stopped.{Stopped}
 use Rattle.session.specs.declared.serve.Stopped.TheVariants as stopped
@@ -78,11 +80,11 @@ module _ {D : Type 0} (told : D → DeskState) where
   serving_none d h w bytes = record { served = []; holds = holds_here bytes; answered = answered_none d h w; none = none_quits }
 
   -- one more request of the bytes
-  one_more : (bytes rest rest' : Bytes) (served : List (List Bytes)) (words : List Bytes) → Holds bytes served rest → Reads rest words rest' → 0 < length words → Holds bytes (served ++ words ∷ []) rest'
+  one_more : (bytes rest rest' : Bytes) (served : List (List Bytes)) (words : List Bytes) → HoldsRequests bytes served rest → ReadsRequest rest words rest' → 0 < length words → HoldsRequests bytes (served ++ words ∷ []) rest'
   one_more bytes rest rest' served words p reads some = holds_then bytes served rest (words ∷ []) rest' p (holds_one rest words rest' some reads)
 
   -- one more request was answered
-  pub serving_more : (d e f : D) (h i j : Known) (w x y bytes rest rest' : Bytes) (words : List Bytes) (u : Unit {0}) (k g : ℕ) → Serving told d e h i w x bytes rest → Reads rest words rest' → 0 < length words → Answers told e f i j x y k g words (Ok u) → Serving told d f h j w y bytes rest'
+  pub serving_more : (d e f : D) (h i j : Known) (w x y bytes rest rest' : Bytes) (words : List Bytes) (u : Unit {0}) (k g : ℕ) → Serving told d e h i w x bytes rest → ReadsRequest rest words rest' → 0 < length words → Answers told e f i j x y k g words (Ok u) → Serving told d f h j w y bytes rest'
   unfolding Answers
   serving_more d e f h i j w x y bytes rest rest' words u k g p reads some q = record {
     served = p.served ++ words ∷ [];
@@ -92,11 +94,11 @@ module _ {D : Type 0} (told : D → DeskState) where
   }
 
   -- empty requests were passed over
-  skipped : (bytes rest rest' : Bytes) (served : List (List Bytes)) → Holds bytes served rest → Reads rest [] rest' → Holds bytes served rest'
-  skipped bytes rest rest' served p q = subst (λ (rs : List (List Bytes)). Holds bytes rs rest') (append-nil served) (holds_then bytes served rest [] rest' p (holds_skip rest rest' q))
+  skipped : (bytes rest rest' : Bytes) (served : List (List Bytes)) → HoldsRequests bytes served rest → ReadsRequest rest [] rest' → HoldsRequests bytes served rest'
+  skipped bytes rest rest' served p q = subst (λ (rs : List (List Bytes)). HoldsRequests bytes rs rest') (append-nil served) (holds_then bytes served rest [] rest' p (holds_skip rest rest' q))
 
   -- no request is whole any more
-  pub serves_all : (d e : D) (h i : Known) (w x bytes rest rest' : Bytes) (f g : ℕ) (u : Unit {0}) → Serving told d e h i w x bytes rest → Reads rest [] rest' → IsUnfinished rest' → Serves told d e h i w x f g bytes rest' (Ok u)
+  pub serves_all : (d e : D) (h i : Known) (w x bytes rest rest' : Bytes) (f g : ℕ) (u : Unit {0}) → Serving told d e h i w x bytes rest → ReadsRequest rest [] rest' → IsUnfinished rest' → Serves told d e h i w x f g bytes rest' (Ok u)
   unfolding Serves
   serves_all d e h i w x bytes rest rest' f g u p reads unfinished = (record { served = p.served; holds = skipped bytes rest rest' p.served p.holds reads; answered = p.answered; none = p.none }, unfinished)
 
@@ -109,7 +111,7 @@ module _ {D : Type 0} (told : D → DeskState) where
   reader_stops d e h i w x bytes rest rest' f g stopped.Quit p n = absurd n
 
   -- an answer stopped: it was that of a QUIT, or the sink failed within it
-  pub answer_stops : (d e f : D) (h i j : Known) (w x y bytes rest rest' : Bytes) (words : List Bytes) (first k g : ℕ) (why : Stopped) → Serving told d e h i w x bytes rest → Reads rest words rest' → 0 < length words → first ≤ k
+  pub answer_stops : (d e f : D) (h i j : Known) (w x y bytes rest rest' : Bytes) (words : List Bytes) (first k g : ℕ) (why : Stopped) → Serving told d e h i w x bytes rest → ReadsRequest rest words rest' → 0 < length words → first ≤ k
       → Answers told e f i j x y k g words (Err why) → Serves told d f h j w y first g bytes rest' (Err why)
   unfolding Serves Answers
   answer_stops d e f h i j w x y bytes rest rest' words first k g stopped.NoMem p reads some le q = absurd q

@@ -2,9 +2,10 @@
 use Rattle.std.proofs.Common.{◌≡◌, ℕ, List, [], ◌++◌, length, take, Option, Some, Result, Ok, Err, refl, sym, ap, subst, ◌∙◌, append_assoc, arith}
 use Rattle.std.proofs.lemmas.List.{append-nil, take_at}
 use Rattle.std.specs.Io.KnownBytes.{Appends}
-use Rattle.kv_outside.specs.Sent.{sent_then, nothing_sent}
-use Rattle.kv_outside.specs.Writing.{AppendsFront, front_on, front_after}
-use Rattle.kv_outside.specs.Causes.{rose_since}
+use Rattle.kv_outside.specs.SentLaws.{sent_then, nothing_sent}
+use Rattle.kv_outside.specs.Writing.{AppendsFront}
+use Rattle.kv_outside.specs.WritingLaws.{front_on, front_after}
+use Rattle.kv_outside.specs.CauseLaws.{rose_since}
 use Rattle.kv_outside.specs.Writing.{Writes}
 use Rattle.session.specs.Serving.{Passes, Sends}
 

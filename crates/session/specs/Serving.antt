@@ -5,12 +5,12 @@ use Rattle.kv_base.specs.Map.{Bytes}
 use Rattle.kv_outside.specs.Causes.{Rose}
 use Rattle.kv_outside.specs.Writing.{AppendsFront}
 use Rattle.redis_model.specs.DeskState.{DeskState}
-use Rattle.cmd_words.specs.Words.{IsRequest}
+use Rattle.cmd_words.specs.Words.{AreRequestWords}
 use Rattle.resp_wire.specs.declared.fault.WireFault.TheVariants.{Cut}
 use Rattle.resp_wire.specs.Fault.{fault_of, fault_line as wire_line}
 use Rattle.resp_wire.specs.Grammar.{End, Whole, Open, Fault}
-use Rattle.resp_wire.specs.Reading.{Reads, IsUnfinished, IsFaulty}
-use Rattle.resp_wire.specs.Holding.{Holds}
+use Rattle.resp_wire.specs.Reading.{ReadsRequest, IsUnfinished, IsFaulty}
+use Rattle.resp_wire.specs.Holding.{HoldsRequests}
 use Rattle.session.specs.declared.answer.Answer.{Answer}
 use Rattle.session.specs.declared.serve.Stopped.{Stopped}
 use Rattle.session.specs.declared.serve.Stopped.TheVariants as stopped
@@ -61,21 +61,21 @@ Answers told old new held held' waits waits' faults faults' words result = Answe
 -- so far: what a loop over requests keeps
 pub record Serving {D : Type 0} (told : D → DeskState) (old new : D) (held held' : Option (List ℕ)) (waits waits' bytes rest : Bytes) : Type 0 where
   pub served : List (List Bytes)
-  pub holds : Holds bytes served rest
+  pub holds : HoldsRequests bytes served rest
   pub answered : Answered told old new held held' waits waits' served
   pub none : NoneQuits served
 
 -- The same where a QUIT was answered.
 pub record Quitting {D : Type 0} (told : D → DeskState) (old new : D) (held held' : Option (List ℕ)) (waits waits' bytes rest : Bytes) : Type 0 where
   pub served : List (List Bytes)
-  pub holds : Holds bytes served rest
+  pub holds : HoldsRequests bytes served rest
   pub answered : Answered told old new held held' waits waits' served
   pub quits : LastQuits served
 
 -- The same where the sink failed within the answers.
 pub record Breaking {D : Type 0} (told : D → DeskState) (old new : D) (held held' : Option (List ℕ)) (waits bytes rest : Bytes) : Type 0 where
   pub served : List (List Bytes)
-  pub holds : Holds bytes served rest
+  pub holds : HoldsRequests bytes served rest
   pub broken : Broken told old new held held' waits served
   pub quits : NoneQuits served ⊎ LastQuits served
 
@@ -92,8 +92,8 @@ Serves told old new held held' waits waits' faults faults' bytes rest result = S
 
 -- what a reader gave, where these bytes were left
 abbrev pub NextAs : Bytes → Bytes → Result (Option (List Bytes)) Stopped → Type 0
-NextAs bytes rest (Ok None) = Reads bytes [] rest × IsUnfinished rest
-NextAs bytes rest (Ok (Some words)) = Reads bytes words rest × (length rest < length bytes) × IsRequest words
+NextAs bytes rest (Ok None) = ReadsRequest bytes [] rest × IsUnfinished rest
+NextAs bytes rest (Ok (Some words)) = ReadsRequest bytes words rest × (length rest < length bytes) × AreRequestWords words
 NextAs bytes rest (Err stopped.NoMem) = Unit {0}
 NextAs bytes rest (Err (stopped.Wire kind left)) = IsFaulty bytes kind left
 NextAs bytes rest (Err _) = ⊥

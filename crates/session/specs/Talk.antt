@@ -7,7 +7,7 @@ use Rattle.redis_model.specs.declared.reply.Reply.{Reply}
 use Rattle.redis_model.specs.Asks.{Ask, Call, due}
 use Rattle.redis_model.specs.Built.{built}
 use Rattle.redis_model.specs.DeskState.{DeskState}
-use Rattle.redis_model.specs.Desk.{TakesReading, TakesCall}
+use Rattle.redis_model.specs.Desk.{TakesOnlyReading, TakesCall}
 use Rattle.redis_model.specs.Limits.{IsWithin}
 use Rattle.cmd_words.specs.Parsed.{parsed_as, IsParsed}
 use Rattle.cmd_words.specs.declared.fault.CommandFault.{CommandFault}
@@ -38,7 +38,7 @@ IsLawful _ = Unit {0}
 pub record Asks {D : Type 0} (told : D → DeskState) (old new : D) (ask : Ask) (answer : Answer) : Type 0 where
   pub now : ℕ
   pub mid : D
-  pub reading : TakesReading (told old) (told mid) now
+  pub reading : TakesOnlyReading (told old) (told mid) now
   pub result : Result Reply DeskFault
   pub call : TakesCall (told mid) (told new) now (due now ask) result
   pub says : answer ≡ answered result

@@ -7,7 +7,7 @@ ghost use Rattle.session.specs.Serving.{TellsAs, StopsAs, FinishesAs};
 
 use crate::serve::Stopped;
 use crate::session::Outcome;
-use kv_outside::{Failed, Outlet, Sink};
+use kv_outside::{Failed, OutputBuffer, Sink};
 use resp_wire::{Reader, WireFault, write_fault};
 use std::alloc::Global;
 
@@ -20,9 +20,9 @@ fn write_line<K: Sink>(
 ) -> Result<(), Failed>
     ensures { Writes (K.held sink.old) (K.held sink.new) (K.faults sink.old) (K.faults sink.new) (fault_line fault place) result }
 {
-    let mut outlet = Outlet::new(alloc);
-    match write_fault(fault, place, &mut outlet) {
-        Ok(()) => outlet.flush(sink),
+    let mut output = OutputBuffer::new(alloc);
+    match write_fault(fault, place, &mut output) {
+        Ok(()) => output.flush(sink),
         Err(_) => write_fault(fault, place, sink),
     }
 }

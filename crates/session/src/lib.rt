@@ -10,8 +10,6 @@ mod ending;
 mod send;
 mod serve;
 mod session;
-#[cfg(test)]
-mod tests;
 mod turn;
 
 pub use answer::{Answer, write_damaged};

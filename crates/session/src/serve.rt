@@ -1,14 +1,14 @@
 ghost use Rattle.std.specs.Prelude.{◌≡◌, ◌≤◌};
-ghost use Rattle.cmd_words.specs.Words.{IsRequest};
+ghost use Rattle.cmd_words.specs.Words.{AreRequestWords};
 ghost use Rattle.session.specs.Serving.{Answers, NextAs, Serves};
 ghost use Rattle.session.specs.declared.serve.Stopped.TheVariants.{WriteFault as write_fault};
 
 use crate::send::send;
 use crate::turn::take_turn;
 use kv_base::Blobs;
-use kv_outside::{Failed, Outlet, Sink};
+use kv_outside::{Failed, OutputBuffer, Sink};
 use redis_model::Desk;
-use resp_wire::{FaultKind, NextFault, Reader};
+use resp_wire::{NextFault, ProtocolFault, Reader};
 use std::alloc::Global;
 
 /// Why no further request is answered.
@@ -18,7 +18,7 @@ pub enum Stopped {
     NoMem,
     WriteFault,
     /// The bytes are off the wire's grammar, at a place from which on so many of those fed stand.
-    Wire(FaultKind, usize),
+    Wire(ProtocolFault, usize),
     /// A QUIT was answered.
     Quit,
 }
@@ -36,16 +36,16 @@ fn answer<D: Desk, K: Sink>(
     alloc: Global,
     words: Blobs,
     desk: &mut D,
-    outlet: &mut Outlet,
+    output: &mut OutputBuffer,
     sink: &mut K,
 ) -> Result<(), Stopped>
-    requires { IsRequest words }
-    ensures said { Answers D.told desk.old desk.new (K.held sink.old) (K.held sink.new) outlet.old.bytes outlet.new.bytes (K.faults sink.old) (K.faults sink.new) words result }
+    requires { AreRequestWords words }
+    ensures said { Answers D.told desk.old desk.new (K.held sink.old) (K.held sink.new) output.old.bytes output.new.bytes (K.faults sink.old) (K.faults sink.new) words result }
     ensures later { K.faults sink.old ≤ K.faults sink.new }
     ensures loans { D.loans desk.new ≡ D.loans desk.old }
 {
     let said = take_turn(alloc, words, desk);
-    send(&said, outlet, sink)?;
+    send(&said, output, sink)?;
     if said.is_quit() {
         return Err(Stopped::Quit);
     }
@@ -68,15 +68,15 @@ pub fn serve<D: Desk, K: Sink>(
     alloc: Global,
     reader: &mut Reader,
     desk: &mut D,
-    outlet: &mut Outlet,
+    output: &mut OutputBuffer,
     sink: &mut K,
 ) -> Result<(), Stopped>
-    ensures served { Serves D.told desk.old desk.new (K.held sink.old) (K.held sink.new) outlet.old.bytes outlet.new.bytes (K.faults sink.old) (K.faults sink.new) reader.old reader.new result }
+    ensures served { Serves D.told desk.old desk.new (K.held sink.old) (K.held sink.new) output.old.bytes output.new.bytes (K.faults sink.old) (K.faults sink.new) reader.old reader.new result }
     ensures later { K.faults sink.old ≤ K.faults sink.new }
     ensures loans { D.loans desk.new ≡ D.loans desk.old }
 {
     while let Some(words) = next_words(reader)? {
-        answer(alloc, words, desk, outlet, sink)?;
+        answer(alloc, words, desk, output, sink)?;
     }
     Ok(())
 }

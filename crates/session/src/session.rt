@@ -4,7 +4,7 @@ ghost use Rattle.session.specs.Session.{Session, IsCaused};
 
 use crate::ending::{finish, stop};
 use crate::serve::{Stopped, serve};
-use kv_outside::{Outlet, Sink, Source};
+use kv_outside::{OutputBuffer, Sink, Source};
 use redis_model::Desk;
 use resp_wire::Reader;
 use std::alloc::Global;
@@ -61,19 +61,19 @@ fn attend<D: Desk, K: Sink>(
     alloc: Global,
     reader: &mut Reader,
     desk: &mut D,
-    outlet: &mut Outlet,
+    output: &mut OutputBuffer,
     sink: &mut K,
 ) -> Result<(), Stopped>
-    ensures served { Serves D.told desk.old desk.new (K.held sink.old) (K.held sink.new) outlet.old.bytes [] (K.faults sink.old) (K.faults sink.new) reader.old reader.new result }
-    ensures empty { OnOk result (outlet.new.bytes ≡ []) }
+    ensures served { Serves D.told desk.old desk.new (K.held sink.old) (K.held sink.new) output.old.bytes [] (K.faults sink.old) (K.faults sink.new) reader.old reader.new result }
+    ensures empty { OnOk result (output.new.bytes ≡ []) }
     ensures later { K.faults sink.old ≤ K.faults sink.new }
     ensures loans { D.loans desk.new ≡ D.loans desk.old }
 {
-    let served = serve(alloc, reader, desk, outlet, sink);
+    let served = serve(alloc, reader, desk, output, sink);
     if has_no_sink(&served) {
         return served;
     }
-    outlet.flush(sink)?;
+    output.flush(sink)?;
     served
 }
 
@@ -97,7 +97,7 @@ pub fn serve_session<S: Source, K: Sink, D: Desk>(
     ensures loans { D.loans desk.new ≡ D.loans desk.old }
 {
     let mut reader = Reader::new(alloc);
-    let mut outlet = Outlet::new(alloc);
+    let mut output = OutputBuffer::new(alloc);
     let mut buffer = [0u8; PIECE];
     let mut taken = 0u64;
     while taken < LIMIT {
@@ -111,7 +111,7 @@ pub fn serve_session<S: Source, K: Sink, D: Desk>(
             return finish(alloc, &reader, taken, sink);
         }
         taken += count as u64;
-        if let Err(stopped) = attend(alloc, &mut reader, desk, &mut outlet, sink) {
+        if let Err(stopped) = attend(alloc, &mut reader, desk, &mut output, sink) {
             return stop(alloc, stopped, taken, sink);
         }
     }

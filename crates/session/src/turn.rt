@@ -2,7 +2,7 @@ ghost use Rattle.std.specs.Prelude.{◌≡◌, IsTrue, Ok};
 ghost use Rattle.redis_model.specs.Asks.{Call};
 ghost use Rattle.redis_model.specs.Built.{built};
 ghost use Rattle.redis_model.specs.Limits.{IsWithin};
-ghost use Rattle.cmd_words.specs.Words.{IsRequest};
+ghost use Rattle.cmd_words.specs.Words.{AreRequestWords};
 ghost use Rattle.session.specs.Talk.{Asks, Turn, TurnBy, IsLawful, asked};
 
 use crate::answer::Answer;
@@ -12,7 +12,7 @@ use redis_model::{Command, Desk};
 use std::alloc::Global;
 
 /// Puts a command to the desk, at the next reading of its clock.
-#[tactic(auto, using(redis_model::specs::Built::built_due))]
+#[tactic(auto, using(redis_model::specs::BuiltLaws::built_due))]
 fn ask<D: Desk>(desk: &mut D, mut command: Command) -> Answer
     requires within { IsWithin command }
     requires built { IsTrue (built command) }
@@ -60,7 +60,7 @@ fn answer<D: Desk>(desk: &mut D, parsed: Parsed) -> Answer
 
 /// Answers a request.
 pub fn take_turn<D: Desk>(alloc: Global, words: Blobs, desk: &mut D) -> Answer
-    requires { IsRequest words }
+    requires { AreRequestWords words }
     ensures turn { Turn D.told desk.old desk.new words result }
     ensures loans { D.loans desk.new ≡ D.loans desk.old }
 {

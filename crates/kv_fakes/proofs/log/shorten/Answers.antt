@@ -1,7 +1,7 @@
 use Rattle.std.proofs.Common.{true, false, refl, sym, subst, List, ℕ, Some}
 use Rattle.kv_outside.specs.Disk.{Agrees}
 use Rattle.kv_outside.specs.Files.{Shortened}
-use Rattle.kv_fakes.specs.declared.past.Kind.TheVariants.{Cut}
+use Rattle.kv_fakes.specs.declared.past.ChangeKind.TheVariants.{Cut}
 use Rattle.kv_fakes.specs.Past.{disk_of}
 use Rattle.kv_fakes.proofs.Pushed.{cut_changes, agrees_after}
 use Rattle.kv_fakes.proofs.Calls.{changes_or_none, agrees_noted}

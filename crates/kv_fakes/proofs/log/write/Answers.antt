@@ -1,6 +1,6 @@
 use Rattle.std.proofs.Common.{true, false, length, refl}
 use Rattle.kv_outside.specs.Files.{Torn}
-use Rattle.kv_fakes.specs.declared.past.Kind.TheVariants.{Written}
+use Rattle.kv_fakes.specs.declared.past.ChangeKind.TheVariants.{Written}
 use Rattle.kv_fakes.proofs.Pushed.{write_changes}
 use Rattle.kv_fakes.proofs.Calls.{changes_or_none, agrees_or_none, agrees_noted}
 use Rattle.kv_fakes.proofs.log.write.Goals as goal

@@ -1,5 +1,5 @@
 use Rattle.std.proofs.Common.{◌∙◌}
-use Rattle.kv_outside.specs.Writing.{writes_as}
+use Rattle.kv_outside.specs.WritingLaws.{writes_as}
 use Rattle.session.proofs.Lines.{numbered_pieces}
 use Rattle.session.proofs.answer.write_damaged_segment.Goals as goal
 

@@ -1,4 +1,4 @@
-use Rattle.kv_outside.specs.Writing.{writes_as}
+use Rattle.kv_outside.specs.WritingLaws.{writes_as}
 use Rattle.session.proofs.Lines.{error_pieces}
 use Rattle.session.proofs.answer.write_error.Goals as goal
 

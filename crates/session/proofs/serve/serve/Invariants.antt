@@ -4,7 +4,7 @@ use Rattle.session.proofs.serve.serve.Given as goal
 
 abbrev pub invariant-loop-words : goal.invariant-loop-words
 invariant-loop-words g l = record {
-  serving : Serving g.D.Desk.told l.fn.desk l.desk (g.K.Sink.held l.fn.sink) (g.K.Sink.held l.sink) l.fn.outlet.bytes l.outlet.bytes l.fn.reader l.reader;
+  serving : Serving g.D.Desk.told l.fn.desk l.desk (g.K.Sink.held l.fn.sink) (g.K.Sink.held l.sink) l.fn.output.bytes l.output.bytes l.fn.reader l.reader;
   later : g.K.Sink.faults l.fn.sink ≤ g.K.Sink.faults l.sink;
   loans : g.D.Desk.loans l.desk ≡ g.D.Desk.loans l.fn.desk;
 }

@@ -1,12 +1,12 @@
 use Rattle.std.proofs.Common.{◌∙◌, [], refl, arith}
 use Rattle.session.proofs.Pulling.{pull_caused, still_unfinished, pulled_few, pulled_on}
 use Rattle.session.proofs.Run.{run_begins, run_closes, run_on, run_stops_at, run_spent, pull_stops, stop_caused, finish_caused}
-use Rattle.kv_outside.specs.Taken.{nothing_taken}
+use Rattle.kv_outside.specs.TakenLaws.{nothing_taken}
 use Rattle.session.proofs.session.serve_session.Goals as goal
 
 pub loop-taken-init : goal.loop-taken-init
 loop-taken-init g c = record {
-  run = run_begins g.D.Desk.told c.args.desk.now (g.S.Source.left c.args.source.now) (g.K.Sink.held c.args.sink.now) c.new-outlet.result.bytes c.new-reader.result c.new-outlet.ensures.bytes c.new-reader.ensures;
+  run = run_begins g.D.Desk.told c.args.desk.now (g.S.Source.left c.args.source.now) (g.K.Sink.held c.args.sink.now) c.new-output.result.bytes c.new-reader.result c.new-output.ensures.bytes c.new-reader.ensures;
   ended = refl;
   source = omega arith;
   sink = omega arith;
@@ -15,7 +15,7 @@ loop-taken-init g c = record {
 
 pub returns-in-Err-clause-session : goal.returns-in-Err-clause-session
 returns-in-Err-clause-session g c =
-    pull_stops g.D.Desk.told c.args.desk.now c.loop-taken.desk (g.S.Source.left c.args.source.now) (g.S.Source.left c.loop-taken.source) (g.S.Source.left c.pull.new.source) (g.K.Sink.held c.args.sink.now) (g.K.Sink.held c.loop-taken.sink) c.loop-taken.outlet.bytes c.loop-taken.reader c.pull.new.reader c.loop-taken.taken _ _ _ (g.S.Source.ended c.args.source.now) _ _ c.in-Err.outcome c.loop-taken.invariant.run c.in-Err.ensures.pulled
+    pull_stops g.D.Desk.told c.args.desk.now c.loop-taken.desk (g.S.Source.left c.args.source.now) (g.S.Source.left c.loop-taken.source) (g.S.Source.left c.pull.new.source) (g.K.Sink.held c.args.sink.now) (g.K.Sink.held c.loop-taken.sink) c.loop-taken.output.bytes c.loop-taken.reader c.pull.new.reader c.loop-taken.taken _ _ _ (g.S.Source.ended c.args.source.now) _ _ c.in-Err.outcome c.loop-taken.invariant.run c.in-Err.ensures.pulled
     (omega (arith, c.loop-taken-test.true, c.min-room.ensures, c.split_at_mut-piece.ensures.front_len))
 
 pub returns-in-Err-clause-caused : goal.returns-in-Err-clause-caused
@@ -28,7 +28,7 @@ finish-requires g c = still_unfinished (g.S.Source.left c.loop-taken.source) (g.
 pub returns-then-count-eq0-clause-session : goal.returns-then-count-eq0-clause-session
 returns-then-count-eq0-clause-session g c =
     run_closes g.D.Desk.told c.args.desk.now c.loop-taken.desk (g.S.Source.left c.args.source.now) (g.S.Source.left c.loop-taken.source) (g.S.Source.left c.pull.new.source) (g.K.Sink.held c.args.sink.now) (g.K.Sink.held c.loop-taken.sink) (g.K.Sink.held c.finish.new.sink)
-    c.loop-taken.outlet.bytes c.loop-taken.reader c.pull.new.reader c.loop-taken.taken c.in-Ok.count _ _ _ (g.K.Sink.faults c.loop-taken.sink) (g.K.Sink.faults c.finish.new.sink) (g.S.Source.ended c.args.source.now) _ _ c.finish.result c.loop-taken.invariant.run c.in-Ok.ensures.pulled c.if-count-eq0.true c.finish.ensures
+    c.loop-taken.output.bytes c.loop-taken.reader c.pull.new.reader c.loop-taken.taken c.in-Ok.count _ _ _ (g.K.Sink.faults c.loop-taken.sink) (g.K.Sink.faults c.finish.new.sink) (g.S.Source.ended c.args.source.now) _ _ c.finish.result c.loop-taken.invariant.run c.in-Ok.ensures.pulled c.if-count-eq0.true c.finish.ensures
 
 pub returns-then-count-eq0-clause-caused : goal.returns-then-count-eq0-clause-caused
 returns-then-count-eq0-clause-caused g c =
@@ -40,18 +40,18 @@ overflow_add-taken g c = omega (arith, c.loop-taken.invariant.run.within, c.loop
 pub returns-in-Err-attend-clause-session : goal.returns-in-Err-attend-clause-session
 returns-in-Err-attend-clause-session g c =
     run_stops_at g.D.Desk.told c.args.desk.now c.loop-taken.desk c.attend.new.desk (g.S.Source.left c.args.source.now) (g.S.Source.left c.loop-taken.source) (g.S.Source.left c.pull.new.source) (g.K.Sink.held c.args.sink.now) (g.K.Sink.held c.loop-taken.sink) (g.K.Sink.held c.attend.new.sink) (g.K.Sink.held c.stop.new.sink)
-    c.loop-taken.outlet.bytes c.loop-taken.reader c.pull.new.reader c.attend.new.reader c.loop-taken.taken c.in-Ok.count _ _ _ _ (g.K.Sink.faults c.attend.new.sink) (g.K.Sink.faults c.stop.new.sink) (g.S.Source.ended c.args.source.now) _ _ c.in-Err-attend.stopped c.stop.result c.loop-taken.invariant.run c.in-Ok.ensures.pulled c.in-Err-attend.ensures.served c.stop.ensures
+    c.loop-taken.output.bytes c.loop-taken.reader c.pull.new.reader c.attend.new.reader c.loop-taken.taken c.in-Ok.count _ _ _ _ (g.K.Sink.faults c.attend.new.sink) (g.K.Sink.faults c.stop.new.sink) (g.S.Source.ended c.args.source.now) _ _ c.in-Err-attend.stopped c.stop.result c.loop-taken.invariant.run c.in-Ok.ensures.pulled c.in-Err-attend.ensures.served c.stop.ensures
     (omega (arith, c.loop-taken-test.true, c.min-room.ensures, c.split_at_mut-piece.ensures.front_len))
 
 pub returns-in-Err-attend-clause-caused : goal.returns-in-Err-attend-clause-caused
 returns-in-Err-attend-clause-caused g c =
-    stop_caused g.D.Desk.told c.loop-taken.desk c.attend.new.desk (g.K.Sink.held c.loop-taken.sink) (g.K.Sink.held c.attend.new.sink) (g.K.Sink.held c.stop.new.sink) c.loop-taken.outlet.bytes c.pull.new.reader c.attend.new.reader
+    stop_caused g.D.Desk.told c.loop-taken.desk c.attend.new.desk (g.K.Sink.held c.loop-taken.sink) (g.K.Sink.held c.attend.new.sink) (g.K.Sink.held c.stop.new.sink) c.loop-taken.output.bytes c.pull.new.reader c.attend.new.reader
     (g.K.Sink.faults c.args.sink.now) (g.K.Sink.faults c.loop-taken.sink) (g.K.Sink.faults c.attend.new.sink) (g.K.Sink.faults c.stop.new.sink) _ (g.S.Source.faults c.args.source.now) (g.S.Source.faults c.pull.new.source) c.in-Err-attend.stopped c.stop.result c.in-Err-attend.ensures.served c.stop.ensures c.loop-taken.invariant.sink c.in-Err-attend.ensures.later
 
 pub loop-taken-preserved : goal.loop-taken-preserved
 loop-taken-preserved g c =
     record {
-      run = run_on g.D.Desk.told c.args.desk.now c.loop-taken.desk c.attend.new.desk (g.S.Source.left c.args.source.now) (g.S.Source.left c.loop-taken.source) (g.S.Source.left c.pull.new.source) (g.K.Sink.held c.args.sink.now) (g.K.Sink.held c.loop-taken.sink) (g.K.Sink.held c.attend.new.sink) c.loop-taken.outlet.bytes c.attend.new.outlet.bytes c.loop-taken.reader c.pull.new.reader c.attend.new.reader c.loop-taken.taken c.in-Ok.count _ _ _ _ _ _ _ _ c.loop-taken.invariant.run c.in-Ok.ensures.pulled c.in_default.ensures.served c.in_default.ensures.empty
+      run = run_on g.D.Desk.told c.args.desk.now c.loop-taken.desk c.attend.new.desk (g.S.Source.left c.args.source.now) (g.S.Source.left c.loop-taken.source) (g.S.Source.left c.pull.new.source) (g.K.Sink.held c.args.sink.now) (g.K.Sink.held c.loop-taken.sink) (g.K.Sink.held c.attend.new.sink) c.loop-taken.output.bytes c.attend.new.output.bytes c.loop-taken.reader c.pull.new.reader c.attend.new.reader c.loop-taken.taken c.in-Ok.count _ _ _ _ _ _ _ _ c.loop-taken.invariant.run c.in-Ok.ensures.pulled c.in_default.ensures.served c.in_default.ensures.empty
           (omega (arith, c.loop-taken-test.true, c.min-room.ensures, c.split_at_mut-piece.ensures.front_len));
       ended = pulled_on (g.S.Source.left c.loop-taken.source) (g.S.Source.left c.pull.new.source) _ _ _ _ c.loop-taken.reader c.pull.new.reader _ c.in-Ok.count c.in-Ok.ensures.pulled (omega (arith, c.if-count-eq0.false)) ∙ c.loop-taken.invariant.ended;
       source = omega (arith, c.loop-taken.invariant.source, c.in-Ok.ensures.later);
@@ -61,4 +61,4 @@ loop-taken-preserved g c =
 
 pub returns-clause-session : goal.returns-clause-session
 returns-clause-session g c =
-    run_spent g.D.Desk.told c.args.desk.now c.loop-taken.desk (g.S.Source.left c.args.source.now) (g.S.Source.left c.loop-taken.source) (g.S.Source.left c.loop-taken.source) (g.K.Sink.held c.args.sink.now) (g.K.Sink.held c.loop-taken.sink) c.loop-taken.outlet.bytes c.loop-taken.reader [] c.loop-taken.taken c.loop-taken.invariant.run (nothing_taken (g.S.Source.left c.loop-taken.source)) refl (g.S.Source.ended c.args.source.now) (g.S.Source.ended c.loop-taken.source) (omega (arith, c.loop-taken.invariant.run.within, c.loop-taken-test.false)) c.loop-taken.invariant.ended
+    run_spent g.D.Desk.told c.args.desk.now c.loop-taken.desk (g.S.Source.left c.args.source.now) (g.S.Source.left c.loop-taken.source) (g.S.Source.left c.loop-taken.source) (g.K.Sink.held c.args.sink.now) (g.K.Sink.held c.loop-taken.sink) c.loop-taken.output.bytes c.loop-taken.reader [] c.loop-taken.taken c.loop-taken.invariant.run (nothing_taken (g.S.Source.left c.loop-taken.source)) refl (g.S.Source.ended c.args.source.now) (g.S.Source.ended c.loop-taken.source) (omega (arith, c.loop-taken.invariant.run.within, c.loop-taken-test.false)) c.loop-taken.invariant.ended

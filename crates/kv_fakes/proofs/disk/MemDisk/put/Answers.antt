@@ -1,5 +1,5 @@
 use Rattle.std.proofs.Common.{ap, Some, List, ℕ}
-use Rattle.kv_fakes.specs.declared.past.Kind.TheVariants.{Placed}
+use Rattle.kv_fakes.specs.declared.past.ChangeKind.TheVariants.{Placed}
 use Rattle.kv_fakes.specs.MemDisk.{changes_of}
 use Rattle.kv_fakes.proofs.Outcomes.{on_ok}
 use Rattle.kv_fakes.proofs.Pushed.{reads_own, placed_durable, placed_changes}

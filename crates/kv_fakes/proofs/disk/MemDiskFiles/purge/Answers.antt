@@ -1,5 +1,5 @@
 use Rattle.std.proofs.Common.{refl, inr}
-use Rattle.kv_fakes.specs.declared.past.Kind.TheVariants.{Gone}
+use Rattle.kv_fakes.specs.declared.past.ChangeKind.TheVariants.{Gone}
 use Rattle.kv_fakes.specs.MemDisk.{changes_of}
 use Rattle.kv_fakes.proofs.Pushed.{reads_own, purge_changes}
 use Rattle.kv_fakes.proofs.disk.MemDiskFiles.purge.Goals as goal
