@@ -11,8 +11,10 @@ use Rattle.resp_wire.specs.Grammar.{Whole, requests}
 use Rattle.session.specs.declared.answer.Answer.{Answer}
 use Rattle.session.specs.declared.session.Outcome.{Outcome}
 use Rattle.session.specs.declared.session.Outcome.TheVariants as outcome
-use Rattle.session.specs.Input.{IsOff, ends_input}
-use Rattle.session.specs.Quits.{has_quit, has_quit-none}
+use Rattle.session.specs.Input.{IsOff}
+use Rattle.session.specs.InputLaws.{ends_input}
+use Rattle.session.specs.Quits.{has_quit}
+use Rattle.session.specs.QuitLaws.{has_quit-none}
 use Rattle.session.specs.Session.{Session, IsCaused, end_line}
 use Rattle.session.specs.Talk.{Talks, text}
 use Rattle.kv_server.specs.Dialog.{StoreState}
@@ -58,8 +60,8 @@ later_at told o old new l l' h i b b' p = talks_later told old new p.served p.an
 -- ---- by the status
 
 -- what was written, where no call to the sink failed
-output_of : (s t : StoreState) (a b h i : Known) (served : List (List Bytes)) (answers : List Answer) (line : Bytes) → Talked s t served answers a b → Appends h i (text answers ++ line) → OutputOf s t a h i served line
-output_of s t a b h i served answers line talked wrote = record { nows = talked.nows; answers = answers; told = are_told a b talked.nows talked.readings; dialog = talked.dialog; wrote = wrote }
+output_of : (s t : StoreState) (a b h i : Known) (served : List (List Bytes)) (answers : List Answer) (line : Bytes) → Talked s t served answers a b → Appends h i (text answers ++ line) → OutputOf s t a h i served answers line
+output_of s t a b h i served answers line talked wrote = record { nows = talked.nows; told = are_told a b talked.nows talked.readings; dialog = talked.dialog; wrote = wrote }
 
 -- an input that goes off has no QUIT before
 ends_badly : (input : Bytes) (served : List (List Bytes)) (line : Bytes) → IsOff input served line → EndsBadly input
@@ -72,7 +74,7 @@ module _ (n : ℕ) (s t : StoreState) (old new : Outside) where
   closed_output outcome.Closed (Some input) is p talked zero =
       let q = ends_input outcome.Closed input p.taken new.left p.served p.line old.ended new.ended p.took p.ends in
       let all = output_of s t old.readings new.readings old.held new.held p.served p.answers p.line talked p.wrote in
-      (subst (λ (rs : List (List Bytes)). OutputOf s t old.readings old.held new.held rs []) q.1 (subst (OutputOf s t old.readings old.held new.held p.served) q.0 all), q.2)
+      (p.answers, subst (λ (rs : List (List Bytes)). OutputOf s t old.readings old.held new.held rs p.answers []) q.1 (subst (OutputOf s t old.readings old.held new.held p.served p.answers) q.0 all), q.2)
   closed_output outcome.NoMem l is p talked zero = absurd (omega (arith, is, zero))
   closed_output outcome.ReadFault l is p talked zero = absurd (omega (arith, is, zero))
   closed_output outcome.WriteFault l is p talked zero = absurd (omega (arith, is, zero))
@@ -80,14 +82,12 @@ module _ (n : ℕ) (s t : StoreState) (old new : Outside) where
   closed_output outcome.Spent l is p talked zero = absurd (omega (arith, is, zero))
 
   -- the sink failed
-  pub broken_output : (o : Outcome) (l : Known) → n ≡ status o → (p : Ran o (record old { left = l }) new) → Talked s t p.served p.answers old.readings new.readings → n ≡ 6 → HasFront s t l old.readings old.held new.held
+  pub broken_output : (o : Outcome) (l : Known) → n ≡ status o → (p : Ran o (record old { left = l }) new) → Talked s t p.served p.answers old.readings new.readings → n ≡ 6 → HasFront s t p.served p.answers l old.readings old.held new.held
   broken_output outcome.WriteFault None is p talked six = tt
   broken_output outcome.WriteFault (Some input) is p talked six = record {
-    served = p.served;
     line = p.line;
     under_way = ends_input outcome.WriteFault input p.taken new.left p.served p.line old.ended new.ended p.took p.ends;
     nows = talked.nows;
-    answers = p.answers;
     told = are_told old.readings new.readings talked.nows talked.readings;
     dialog = talked.dialog;
     wrote = p.wrote;
@@ -99,12 +99,12 @@ module _ (n : ℕ) (s t : StoreState) (old new : Outside) where
   broken_output outcome.Spent l is p talked six = absurd (omega (arith, is, six))
 
   -- the input is off the grammar, or ends inside a request
-  pub protocol_output : (o : Outcome) (l : Known) → n ≡ status o → (p : Ran o (record old { left = l }) new) → Talked s t p.served p.answers old.readings new.readings → n ≡ 7 → IsRejected s t l old.readings old.held new.held
+  pub protocol_output : (o : Outcome) (l : Known) → n ≡ status o → (p : Ran o (record old { left = l }) new) → Talked s t p.served p.answers old.readings new.readings → n ≡ 7 → IsRejected s t p.served p.answers l old.readings old.held new.held
   protocol_output outcome.Protocol None is p talked seven = tt
   protocol_output outcome.Protocol (Some input) is p talked seven =
       let off = ends_input outcome.Protocol input p.taken new.left p.served p.line old.ended new.ended p.took p.ends in
       let all = output_of s t old.readings new.readings old.held new.held p.served p.answers p.line talked p.wrote in
-      (subst (λ (rs : List (List Bytes)). OutputOf s t old.readings old.held new.held rs (end_line (length input) (requests input).1)) off.all (subst (OutputOf s t old.readings old.held new.held p.served) off.tells all), ends_badly input p.served p.line off)
+      (off.all, subst (OutputOf s t old.readings old.held new.held p.served p.answers) off.tells all, ends_badly input p.served p.line off)
   protocol_output outcome.Closed l is p talked seven = absurd (omega (arith, is, seven))
   protocol_output outcome.NoMem l is p talked seven = absurd (omega (arith, is, seven))
   protocol_output outcome.ReadFault l is p talked seven = absurd (omega (arith, is, seven))

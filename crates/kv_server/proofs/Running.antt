@@ -1,21 +1,23 @@
 -- What a run says, by its status.
-use Rattle.std.proofs.Common.{◌≡◌, ◌≢◌, ◌≤◌, ℕ, [], inl, inr, ◌⊎◌, ⊎_elim, refl, sym, ap, subst, ◌∙◌, arith}
+use Rattle.std.proofs.Common.{◌≡◌, ◌≢◌, ◌≤◌, ℕ, List, [], inl, inr, ◌⊎◌, ⊎_elim, refl, sym, ap, subst, ◌∙◌, arith}
 use Rattle.kv_base.specs.Map.{Bytes}
 use Rattle.kv_base.specs.declared.fault.StoreFault.{StoreFault}
 use Rattle.kv_base.specs.declared.fault.StoreFault.TheVariants as fault
-use Rattle.kv_outside.specs.Causes.{Rose, rose_since}
+use Rattle.kv_outside.specs.Causes.{Rose}
+use Rattle.kv_outside.specs.CauseLaws.{rose_since}
 use Rattle.kv_outside.specs.Disk.{Disk}
 use Rattle.session.specs.declared.session.Outcome.{Outcome}
 use Rattle.session.specs.declared.session.Outcome.TheVariants as outcome
 use Rattle.session.specs.Session.{IsCaused}
 use Rattle.session.specs.Answer.{damage_line}
+use Rattle.redis_model.specs.declared.command.Cmds.{Cmds}
 use Rattle.redis_model.specs.Machine.{State}
-use Rattle.redis_model.specs.Value.{RedisMap, alive}
-use Rattle.log_store.specs.Keeping.{StoreState as KeptState, state_of, FailsToOpen, HoldsKeys, IsKept, IsOpened, StandsFor, Keeps, KeepsOrMore, ComesTo}
-use Rattle.log_store.specs.KeepLaws.{opened_stands}
+use Rattle.redis_model.specs.Value.{RedisMap}
+use Rattle.log_store.specs.Keeping.{KeptState, state_of, FailsToOpen, HoldsKeys, IsKept, IsOpened, StandsFor, Keeps, KeepsOrMore}
+use Rattle.log_store.specs.KeepLaws.{keeps_keys_or_more, opened_stands, stands_comes_at}
 use Rattle.kv_server.specs.Dialog.{StoreState}
 use Rattle.kv_server.specs.Outside.{Outside}
-use Rattle.kv_server.specs.Script.{status, opening_status, unclosed_status, EndsWith, Tells, IsWritten, IsRun, IsGood, IsFaultTold, IsFront, IsDamageTold, IsWhole, IsSession, ComesToStore, LeavesKeys, Opened, Went, store_of, store_from}
+use Rattle.kv_server.specs.Script.{status, opening_status, unclosed_status, EndsWith, TellsFault, IsWritten, IsRun, IsGood, IsFaultTold, IsFront, IsDamageTold, IsWhole, IsSession, LeavesKeys, Opened, Went, store_of, store_from}
 use Rattle.kv_server.proofs.Output.{closed_output, broken_output, protocol_output, whole_is_answered}
 
 -- ---- which status can be which
@@ -41,14 +43,6 @@ status_is_not outcome.WriteFault = (omega arith, omega arith, omega arith)
 status_is_not outcome.Protocol = (omega arith, omega arith, omega arith)
 status_is_not outcome.Spent = (omega arith, omega arith, omega arith)
 
-pub unclosed_is_not_0 : (o : Outcome) → unclosed_status o ≢ 0
-unclosed_is_not_0 outcome.Closed = omega arith
-unclosed_is_not_0 outcome.NoMem = omega arith
-unclosed_is_not_0 outcome.ReadFault = omega arith
-unclosed_is_not_0 outcome.WriteFault = omega arith
-unclosed_is_not_0 outcome.Protocol = omega arith
-unclosed_is_not_0 outcome.Spent = omega arith
-
 -- a status of a session that is not 2 is that of its outcome
 session_status : (o : Outcome) (n before now : ℕ) → EndsWith o n before now → n ≢ 2 → n ≡ status o
 session_status o n before now (inl is) other = is
@@ -73,15 +67,15 @@ module _ (n : ℕ) (old new : Outside) where
   front_run (inl r) six = let is = refused_status n r.fault r.status in absurd (omega (arith, six, is))
   front_run (inr r) six =
       let is : n ≡ status r.outcome = session_status r.outcome n old.files new.files r.ends (omega (arith, six)) in
-      opened_on (λ first (w : Went n new r.ran.served r.ran.answers old.readings first). record { last = w.last; until = w.until; front = broken_output n first w.last old new r.outcome old.left is r.ran w.talked six; kept_or_more = w.kept_or_more }) r.opened
+      opened_on (λ first (w : Went n new r.ran.served r.ran.answers old.readings first). record { last = w.last; until = w.until; served = r.ran.served; answers = r.ran.answers; front = broken_output n first w.last old new r.outcome old.left is r.ran w.talked six; kept_or_more = w.kept_or_more }) r.opened
 
   pub protocol_run : IsRun n old new → n ≡ 7 → Opened old.disk old.files (IsFaultTold new.disk new.files old.left old.readings old.held new.held)
   protocol_run (inl r) seven = let is = refused_status n r.fault r.status in absurd (omega (arith, seven, is))
   protocol_run (inr r) seven =
       let is : n ≡ status r.outcome = session_status r.outcome n old.files new.files r.ends (omega (arith, seven)) in
-      opened_on (λ first (w : Went n new r.ran.served r.ran.answers old.readings first). record { last = w.last; until = w.until; rejected = protocol_output n first w.last old new r.outcome old.left is r.ran w.talked seven; kept_or_more = w.kept_or_more }) r.opened
+      opened_on (λ first (w : Went n new r.ran.served r.ran.answers old.readings first). record { last = w.last; until = w.until; served = r.ran.served; answers = r.ran.answers; rejected = protocol_output n first w.last old new r.outcome old.left is r.ran w.talked seven; kept_or_more = w.kept_or_more }) r.opened
 
-  told_damage : (f : StoreFault) → n ≡ opening_status f → FailsToOpen old.disk old.files new.files f → Tells f old.held new.held old.sink new.sink → n ≡ 3 → IsDamageTold old.disk old.held new.held old.sink new.sink
+  told_damage : (f : StoreFault) → n ≡ opening_status f → FailsToOpen old.disk old.files new.files f → TellsFault f old.held new.held old.sink new.sink → n ≡ 3 → IsDamageTold old.disk old.held new.held old.sink new.sink
   told_damage fault.Failed is cause wrote three = absurd (omega (arith, is, three))
   told_damage (fault.Damaged file place) is cause wrote three = record {
     place = place;
@@ -161,27 +155,14 @@ ends_since o n first before now later (inr closing) = inr (closing.0, rose_since
 
 -- what the log of a store comes to is what the store stands for
 comes_to_store : (disk : Disk) (k : KeptState) (s : State) (faults : ℕ) → StandsFor k s → Keeps disk k → LeavesKeys disk (store_of s k faults)
-comes_to_store disk k s faults stands keeps = record { each = λ c image. comes c (keeps.each c image) }
-  where
-    comes : (c : Bytes) → ComesTo (state_of k) c → ComesToStore (store_of s k faults) c
-    comes c is = record {
-      comes = record {
-        state = state_of k;
-        is = is;
-        at_last_batch = stands.at_last_batch;
-        holds = stands.holds;
-        past = omega (arith, stands.past, stands.floor);
-        keys_are = stands.keys ∙ ap (alive stands.at_last_batch) (sym stands.floor);
-      };
-      sequence = refl;
-    }
+comes_to_store disk k s faults stands keeps = record { each = λ c image. stands_comes_at k s stands c (keeps.each c image) }
 
 -- A store was opened on this outside, a session was served from the disk and the count of the opening on, and the store was
 -- closed on that which the session left.
 pub served_run : (n : ℕ) (old : Outside) (opened : Disk) (f1 : ℕ) (ended : Outside) (new : Disk) (f3 : ℕ) (k k' : KeptState) (o : Outcome)
     → IsOpened old.disk opened k → old.files ≤ f1 → f1 ≤ ended.files → ended.files ≤ f3
-    → (IsKept opened k → IsSession o k k' (record old { disk = opened; files = f1 }) ended) → IsCaused o old.source ended.source old.sink ended.sink
-    → EndsWith o n ended.files f3 → (n ≡ 0 → IsKept ended.disk k' → Keeps new k') → (IsKept ended.disk k' → Keeps new k' ⊎ KeepsOrMore new k')
+    → (IsKept opened k [] → IsSession o k k' (record old { disk = opened; files = f1 }) ended) → IsCaused o old.source ended.source old.sink ended.sink
+    → EndsWith o n ended.files f3 → (n ≡ 0 → (failed : List Cmds) → IsKept ended.disk k' failed → Keeps new k') → ((failed : List Cmds) → IsKept ended.disk k' failed → Keeps new k' ⊎ KeepsOrMore new k' failed)
     → IsRun n old (record ended { disk = new; files = f3 })
 served_run n old opened f1 ended new f3 k k' o opening later more closing session caused ends closed unclosed =
     let went = session opening.keeps in
@@ -201,6 +182,13 @@ served_run n old opened f1 ended new f3 k k' o opening later more closing sessio
           last = store_of on.state k' ended.files;
           until = closing;
           talked = on.talked;
-          kept = λ zero. comes_to_store new k' on.state ended.files on.stands (closed zero on.keeps);
-          kept_or_more = record { store = k'; stands = on.stands; sequence = refl; leaves = unclosed on.keeps };
+          kept = λ zero. comes_to_store new k' on.state ended.files on.stands (closed zero went.keeps.failed went.keeps.keeps);
+          kept_or_more = record {
+            failed = went.keeps.failed;
+            were = went.keeps.were;
+            leaves = ⊎_elim
+                (λ (all : Keeps new k'). inl (comes_to_store new k' on.state ended.files on.stands all))
+                (λ (more : KeepsOrMore new k' went.keeps.failed). inr (keeps_keys_or_more new k' on.state went.keeps.failed on.stands more))
+                (unclosed went.keeps.failed went.keeps.keeps);
+          };
         }

@@ -1,11 +1,14 @@
 -- What a session says at a desk whose caller is alone is what the machine says.
-use Rattle.std.proofs.Common.{◌≡◌, ◌≤◌, ◌<◌, ◌+◌, arith, ⊎_elim, inl, inr, ℕ, Bool, true, false, List, [], ◌∷◌, ◌++◌, length, Option, Some, None, Result, Ok, Err, refl, sym, ap, subst, ◌∙◌}
-use Rattle.std.specs.Prelude.{IsFalse, IsSome, OnErr, ◌==◌, if◌then◌else◌}
+use Rattle.std.proofs.Common.{◌≡◌, ◌⊎◌, ◌≤◌, ◌<◌, ◌+◌, arith, ⊎_elim, inl, inr, ℕ, Bool, true, false, List, [], ◌∷◌, ◌++◌, length, Option, Some, None, Result, Ok, Err, refl, sym, ap, subst, ◌∙◌}
+use Rattle.std.specs.Prelude.{Contains, IsFalse, IsSome, OnErr, ◌==◌, if◌then◌else◌}
 use Rattle.std.proofs.lemmas.List.{append-nil}
+use Rattle.std.proofs.lemmas.List.Elements.{Contains-push_cases}
 use Rattle.kv_base.specs.Map.{Bytes}
-use Rattle.kv_outside.specs.Readings.{TakesAll, takes_none, takes_one, takes_then}
+use Rattle.kv_outside.specs.Readings.{TakesAll}
+use Rattle.kv_outside.specs.ReadingLaws.{takes_none, takes_one, takes_then}
 use Rattle.batch_codec.specs.Batches.{Batch}
 use Rattle.redis_model.specs.declared.command.Command.{Command}
+use Rattle.redis_model.specs.declared.command.Cmds.{Cmds}
 use Rattle.redis_model.specs.declared.command.Cmds.TheVariants.{One}
 use Rattle.kv_base.specs.declared.name.FileName.{FileName}
 use Rattle.redis_model.specs.declared.desk.DeskFault.{DeskFault}
@@ -21,13 +24,14 @@ use Rattle.redis_model.specs.Asks as ask
 use Rattle.redis_model.specs.Built.{built}
 use Rattle.redis_model.specs.DeskState.{DeskState}
 use Rattle.redis_model.specs.Places.{Opening, steps_of, state_at}
-use Rattle.redis_model.specs.Desk.{mine, has_pin, IsTicked, IsWithheld as IsWithheldEntry, Entered, Withheld, Leaves, HasReason, can_write, last_sequence}
+use Rattle.redis_model.specs.Desk.{mine, has_pin, IsTicked, IsWithheld as IsWithheldEntry, Entered, Withheld, LeavesPlaces, HasReason, can_write, failed_with, last_sequence}
 use Rattle.redis_model.specs.Legal.{calls_of}
 use Rattle.redis_model.specs.Machine.{State, step, moment_at, at_moment}
 use Rattle.redis_model.specs.TouchedLaws.{reading_touches_nothing}
 use Rattle.lives_model.specs.Rows.{Rows}
 use Rattle.lives_model.specs.Means.{Means}
 use Rattle.lives_model.specs.Plans.{IsPlanFor}
+use Rattle.cmd_words.specs.Parsed.{parsed_as, IsParsed}
 use Rattle.cmd_words.specs.declared.fault.CommandFault.{CommandFault}
 use Rattle.cmd_words.specs.declared.parsed.Parsed.{Parsed}
 use Rattle.cmd_words.specs.declared.parsed.Parsed.TheVariants as parsed
@@ -36,8 +40,9 @@ use Rattle.session.specs.declared.answer.Answer.TheVariants as answer
 use Rattle.session.specs.Answer.{answered}
 use Rattle.session.specs.Talk.{Asked, ToDesk, Own, asked, Asks, TurnBy as TurnAt, Talks}
 use Rattle.log_store.specs.Playing.{batches_of, planned_for}
-use Rattle.kv_server.specs.Alone.{IsOwnCall, AreOwnCalls, batches_at, batches_in, batches_in-append, batches_by, state_more}
-use Rattle.kv_server.specs.Dialog.{StoreState, HasFault, IsWithheld, Answers, TurnBy, Dialog}
+use Rattle.kv_server.specs.Alone.{IsOwnCall, AreOwnCalls, batches_at, batches_in, batches_by}
+use Rattle.kv_server.specs.AloneLaws.{batches_in-append, state_more}
+use Rattle.kv_server.specs.Dialog.{StoreState, HasFault, HasFailed, OneFailed, LeavesState, CommandAnswers, ExchangeBy, Dialog}
 
 -- ---- histories of one caller
 
@@ -128,14 +133,14 @@ module _ (first : State) (seen after : List Place) (now : ℕ) (c : Command) (al
       let one : batches_at (state_at first seen) p.own.what ≡ batches_of (state_at first seen) now (One c) = ap (batches_at (state_at first seen)) is in
       (λ i. (answer i, next i), record { added = p.own ∷ []; grown = grown; batches = omega (arith, one) })
 
-  withheld_is : Withheld 0 first seen now (ask.Call c) after → IsWithheld (state_at first seen) now c (state_at first after) × Grows first seen after 0
+  withheld_is : Withheld 0 first seen now (ask.Call c) after → LeavesState (state_at first seen) now c (state_at first after) × Grows first seen after 0
   withheld_is p = by_added p.added (own_apart seen p.added (subst AreOwnCalls p.grown all)).1 p.grown p.own
     where
       reads_no_batch : (e : Step) → e ≡ Call now 0 c → IsFalse (writes c) → batches_at (state_at first seen) e + 0 ≡ 0
       reads_no_batch e is reads = ap (λ (x : Step). batches_at (state_at first seen) x + 0) is ∙ ap (λ (n : ℕ). n + 0) (no_batch (state_at first seen) now c reads)
 
       by_added : (added : List Place) → AreOwnCalls added → after ≡ seen ++ added → IsWithheldEntry 0 (has_pin (state_at first seen) 0) now (ask.Call c) (mine 0 added)
-          → IsWithheld (state_at first seen) now c (state_at first after) × Grows first seen after 0
+          → LeavesState (state_at first seen) now c (state_at first after) × Grows first seen after 0
       by_added [] own grown w = (inl (ap (state_at first) (grown ∙ append-nil seen)), record { added = []; grown = grown; batches = refl })
       by_added (p ∷ []) own grown w =
           ⊎_elim
@@ -187,12 +192,12 @@ pub record Replied {D : Type 0} (told : D → DeskState) (sequence : D → ℕ) 
   pub readings : TakesAll (told old).readings (told new).readings nows
   pub seen : List Place
   pub stands : (told new).stands opening seen
-  pub turn : TurnBy s a nows answer (store_at told sequence new opening seen)
+  pub turn : ExchangeBy s a nows answer (store_at told sequence new opening seen)
 
 module _ {D : Type 0} (told : D → DeskState) (sequence : D → ℕ) (alone : IsForOne told sequence) where
   -- why a call failed that came to this
   cause_is : (old mid new : D) (opening : Opening) (seen after : List Place) (now : ℕ) (c : Command) (f : DeskFault) → (told mid).faults ≡ (told old).faults → (told new).met ≡ None → (IsFalse (writes c) → (told new).body ≡ 0) → (told new).planned now (ask.Call c)
-      → (told new).stands opening after → IsWithheld (state_at opening.state seen) now c (state_at opening.state after) → sequence new ≡ sequence old → HasReason (told mid).faults (told new) (Err f)
+      → (told new).stands opening after → LeavesState (state_at opening.state seen) now c (state_at opening.state after) → sequence new ≡ sequence old → HasReason (told mid).faults (told new) (Err f)
       → HasFault (store_at told sequence old opening seen) (store_at told sequence new opening after) now c f
   cause_is old mid new opening seen after now c f same none idle planned stands withheld stays why = by_fault f why
     where
@@ -229,19 +234,19 @@ module _ {D : Type 0} (told : D → DeskState) (sequence : D → ℕ) (alone : I
       let ready = p.reading.stands opening seen stood in
       let went = p.call.history opening seen ready in
       let after = went.0 in
-      let leaves : Leaves 0 opening.state seen p.now (ask.Call c) p.result after = subst (λ (n : ℕ). Leaves n opening.state seen p.now (ask.Call c) p.result after) (alone.number p.mid) went.3 in
+      let leaves : LeavesPlaces 0 opening.state seen p.now (ask.Call c) p.result after = subst (λ (n : ℕ). LeavesPlaces n opening.state seen p.now (ask.Call c) p.result after) (alone.number p.mid) went.3 in
       let said = by_result p.result after went.1 leaves p.call.reason (λ reads. p.call.idle opening seen ready (subst (λ (b : Bool). IsFalse (can_write b (ask.Call c))) (sym (alone.unpinned p.mid)) reads)) p.call.planned in
       record {
         nows = p.now ∷ [];
         readings = subst (λ (r : Option (List ℕ)). TakesAll (told old).readings r (p.now ∷ [])) (sym p.call.readings) (takes_one (told old).readings (told p.mid).readings p.now p.reading.reading);
         seen = after;
         stands = went.1;
-        turn = (p.now, refl, subst (λ (x : Answer). Answers (store_at told sequence old opening seen) p.now c x (store_at told sequence new opening after)) (sym p.says) said.0, omega (arith, p.reading.faults, p.call.later));
+        turn = (p.now, refl, subst (λ (x : Answer). CommandAnswers (store_at told sequence old opening seen) p.now c x (store_at told sequence new opening after)) (sym p.says) said.0, omega (arith, p.reading.faults, p.call.later));
       }
     where
-      by_result : (result : Result Reply DeskFault) (after : List Place) → (told new).stands opening after → Leaves 0 opening.state seen p.now (ask.Call (due p.now asking)) result after → HasReason (told p.mid).faults (told new) result
+      by_result : (result : Result Reply DeskFault) (after : List Place) → (told new).stands opening after → LeavesPlaces 0 opening.state seen p.now (ask.Call (due p.now asking)) result after → HasReason (told p.mid).faults (told new) result
           → (IsFalse (writes (due p.now asking)) → (told new).body ≡ 0) → OnErr result ((told new).planned p.now (ask.Call (due p.now asking)))
-          → Answers (store_at told sequence old opening seen) p.now (due p.now asking) (answered result) (store_at told sequence new opening after) × Grows opening.state seen after (batches_by (state_at opening.state seen) p.now (due p.now asking) result)
+          → CommandAnswers (store_at told sequence old opening seen) p.now (due p.now asking) (answered result) (store_at told sequence new opening after) × Grows opening.state seen after (batches_by (state_at opening.state seen) p.now (due p.now asking) result)
       by_result (Ok reply) after stands l why idle planned =
           let e = entered_is opening.state seen after p.now (due p.now asking) (alone.calls new opening after stands) (alone.free old opening seen stood) reply l in
           let n = sequence_grows opening.state opening.last seen e.1.added after e.1.grown (sequence old) (sequence new) (alone.batches old opening seen stood) (alone.batches new opening after stands) in
@@ -286,6 +291,53 @@ module _ {D : Type 0} (told : D → DeskState) (sequence : D → ℕ) (alone : I
         stands = rest.stands;
         dialog = (store_at told sequence mid opening one.seen, one.nows, rest.nows, refl, record { read = talk.1.read; is = talk.1.is; turn = one.turn }, rest.dialog);
       }
+
+-- ---- what failed
+
+-- The desk keeps what it stands for, but for the commands whose calls failed: those before, and these requests.
+pub record KeptOn {D : Type 0} (told : D → DeskState) (new : D) (before : List Cmds) (served : List (List Bytes)) (answers : List Answer) : Type 0 where
+  pub failed : List Cmds
+  pub kept : (told new).kept failed
+  pub were : (ds : Cmds) → Contains failed ds → Contains before ds ⊎ OneFailed served answers ds
+
+kept_by_answer : {D : Type 0} (told : D → DeskState) (new : D) (before : List Cmds) (words : List Bytes) (read : Result Parsed CommandFault) (now : ℕ) (c : Command) (answer : Answer) (result : Result Reply DeskFault)
+    → IsParsed read (parsed_as words) → asked read ≡ ToDesk (ask.Call c) → answer ≡ answered result → (told new).kept (failed_with (One (due now c)) result before) → KeptOn told new before (words ∷ []) (answer ∷ [])
+kept_by_answer told new before words read now c answer (Ok reply) is asks says kept = record { failed = before; kept = kept; were = λ ds among. inl among }
+kept_by_answer told new before words read now c answer (Err e) is asks says kept = record {
+  failed = before ++ One (due now c) ∷ [];
+  kept = kept;
+  were = λ ds among. ⊎_elim
+      (λ (old : Contains before ds). inl old)
+      (λ (this : One (due now c) ≡ ds). inr (inl (record { read = read; is = is; command = c; asks = asks; now = now; due = sym this; fault = e; failed = says })))
+      (Contains-push_cases before (One (due now c)) ds among);
+}
+
+kept_by_turn : {D : Type 0} (told : D → DeskState) (old new : D) (before : List Cmds) (words : List Bytes) (read : Result Parsed CommandFault) (a : Asked) (answer : Answer)
+    → IsParsed read (parsed_as words) → asked read ≡ a → IsOfCalls a → (told old).kept before → TurnAt told old new a answer → KeptOn told new before (words ∷ []) (answer ∷ [])
+kept_by_turn told old new before words read (Own said) answer is asks calls kept p =
+    record { failed = before; kept = subst (λ (d : _). (told d).kept before) (sym p.1) kept; were = λ ds among. inl among }
+kept_by_turn told old new before words read (ToDesk (ask.Call c)) answer is asks calls kept p =
+    kept_by_answer told new before words read p.now c answer p.result is asks p.says (p.call.kept before (p.reading.kept before kept))
+kept_by_turn told old new before words read (ToDesk _) answer is asks calls kept p = absurd calls
+
+pub kept_on : {D : Type 0} (told : D → DeskState) (old new : D) (before : List Cmds) (served : List (List Bytes)) (answers : List Answer) → (told old).kept before → Talks told old new served answers → KeptOn told new before served answers
+kept_on told old new before [] [] kept talk = record { failed = before; kept = subst (λ (d : _). (told d).kept before) (sym talk) kept; were = λ ds among. inl among }
+kept_on told old new before [] (answer ∷ answers) kept talk = absurd talk
+kept_on told old new before (words ∷ others) [] kept talk = absurd talk
+kept_on told old new before (words ∷ others) (answer ∷ answers) kept talk =
+    let one = kept_by_turn told old talk.0 before words talk.1.read (asked talk.1.read) answer talk.1.is refl (of_calls talk.1.read) kept talk.1.turn in
+    let rest = kept_on told talk.0 new one.failed others answers one.kept talk.2 in
+    record {
+      failed = rest.failed;
+      kept = rest.kept;
+      were = λ ds among. ⊎_elim
+          (λ (here : Contains one.failed ds). ⊎_elim (λ (old : Contains before ds). inl old) (λ (this : OneFailed (words ∷ []) (answer ∷ []) ds). inr (first ds this)) (one.were ds here))
+          (λ (later : OneFailed others answers ds). inr (inr later))
+          (rest.were ds among);
+    }
+  where
+    first : (ds : Cmds) → OneFailed (words ∷ []) (answer ∷ []) ds → OneFailed (words ∷ others) (answer ∷ answers) ds
+    first ds this = ⊎_elim (λ (it : HasFailed words answer ds). inl it) (λ (never : ⊥). absurd never) this
 
 -- ---- the count of faults does not fall
 

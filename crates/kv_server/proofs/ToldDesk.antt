@@ -2,8 +2,8 @@
 use Rattle.std.proofs.Common.{◌≡◌, ◌≤◌, ◌<◌, ◌+◌, ℕ, zero, suc, Bool, cond, inl, inr, List, [], ◌∷◌, Option, None, Result, Ok, Err, ⊎_elim, refl, sym, ap, subst, ◌∙◌, arith}
 use Rattle.std.specs.Prelude.{IsFalse, IfOk, IfErr, OnOk, OnErr}
 use Rattle.kv_base.specs.Map.{empty, size-empty}
-use Rattle.kv_outside.specs.Disk.{Disk}
 use Rattle.redis_model.specs.declared.command.Command.{Command}
+use Rattle.redis_model.specs.declared.command.Cmds.{Cmds}
 use Rattle.redis_model.specs.declared.command.Cmds.TheVariants.{One}
 use Rattle.redis_model.specs.declared.desk.DeskFault.{DeskFault}
 use Rattle.redis_model.specs.declared.desk.DeskFault.TheVariants as fault
@@ -12,20 +12,20 @@ use Rattle.redis_model.specs.declared.reply.Reply.{Reply}
 use Rattle.redis_model.specs.About.{writes}
 use Rattle.redis_model.specs.Asks as ask
 use Rattle.redis_model.specs.DeskState.{DeskState}
-use Rattle.redis_model.specs.Desk.{TakesCall, HasReason, Follows, Leaves, fault_of, last_sequence, longest_body}
+use Rattle.redis_model.specs.Desk.{TakesCall, HasReason, Follows, LeavesPlaces, failed_with, fault_of, last_sequence, longest_body}
 use Rattle.redis_model.specs.Machine.{State, moment_at, at_moment}
 use Rattle.redis_model.specs.Places.{Opening, state_at, sequences, GoUp}
 use Rattle.redis_model.specs.Value.{alive}
 use Rattle.lives_model.specs.Rows.{Rows}
 use Rattle.lives_model.specs.Plans.{IsPlanFor, version}
 use Rattle.lives_model.specs.CleanLaws.{means_later}
-use Rattle.lives_model.specs.OwnKeys.{reading_step}
-use Rattle.log_store.specs.Keeping.{StoreState, StandsFor, IsKept}
+use Rattle.lives_model.specs.OwnKeyLaws.{reading_step}
+use Rattle.log_store.specs.Keeping.{KeptState, StandsFor, IsKept}
 use Rattle.log_store.specs.Playing.{batches, batches_of, planned_for, IsBodyOfPlan, IsSized, IsUnchanged, PlayFails, Plays}
 use Rattle.log_store.specs.KeepLaws.{holds_alike, stands_mean}
 use Rattle.log_store.specs.PlayLaws.{batches_are, planned_none, some_batch}
-use Rattle.kv_server.specs.Alone.{knows_alone, goes_on, stays_so}
-use Rattle.kv_server.specs.Standing.{DeskParts, Stands, Planned, told_of}
+use Rattle.kv_server.specs.AloneLaws.{knows_alone, goes_on, stays_so}
+use Rattle.kv_server.specs.Standing.{DeskParts, StoreStands, Planned, told_of}
 use Rattle.kv_server.proofs.Talk.{IsForOne, IsUnwritten}
 
 -- ---- a call
@@ -39,15 +39,15 @@ why before d sequence fault.TooBig is same fails = (omega (arith, fails.0, same)
 why before d sequence fault.Busy is same fails = absurd fails
 
 -- what was planned for a command that only reads has no body
-no_body : (k : StoreState) (now : ℕ) (s : State) (c : Command) (planned : ℕ) → IsBodyOfPlan k now s (One c) planned → IsFalse (writes c) → planned ≡ 0
+no_body : (k : KeptState) (now : ℕ) (s : State) (c : Command) (planned : ℕ) → IsBodyOfPlan k now s (One c) planned → IsFalse (writes c) → planned ≡ 0
 no_body k now s c planned body reads =
     body.bytes ∙ ap planned_for (reading_step k.rows (moment_at s now) (version k.sequence 0) (at_moment s now).keys c body.batch body.answer body.plan.step reads) ∙ planned_none empty (size-empty _)
 
-sized_none : (k : StoreState) (now : ℕ) (s : State) (c : Command) (planned : ℕ) → IsSized k now s (One c) planned → IsFalse (writes c) → planned ≡ 0
+sized_none : (k : KeptState) (now : ℕ) (s : State) (c : Command) (planned : ℕ) → IsSized k now s (One c) planned → IsFalse (writes c) → planned ≡ 0
 sized_none k now s c planned sized reads = ⊎_elim (λ (none : planned ≡ 0). none) (λ (body : IsBodyOfPlan k now s (One c) planned). no_body k now s c planned body reads) sized
 
 -- rows, floor and sequence that stay as they were stand for the same state, and a plan on them is one on them still
-same_stands : (k k' : StoreState) (s : State) → IsUnchanged k k' → StandsFor k s → StandsFor k' s
+same_stands : (k k' : KeptState) (s : State) → IsUnchanged k k' → StandsFor k s → StandsFor k' s
 same_stands k k' s same stands = record {
   at_last_batch = stands.at_last_batch;
   holds = holds_alike k k' stands.at_last_batch same.rows same.written same.sequence stands.holds;
@@ -57,7 +57,7 @@ same_stands k k' s same stands = record {
   free = stands.free;
 }
 
-same_body : (k k' : StoreState) (now : ℕ) (s : State) (c : Command) (planned : ℕ) → IsUnchanged k k' → IsBodyOfPlan k now s (One c) planned → IsBodyOfPlan k' now s (One c) planned
+same_body : (k k' : KeptState) (now : ℕ) (s : State) (c : Command) (planned : ℕ) → IsUnchanged k k' → IsBodyOfPlan k now s (One c) planned → IsBodyOfPlan k' now s (One c) planned
 same_body k k' now s c planned same body = record {
   batch = body.batch;
   answer = body.answer;
@@ -67,7 +67,7 @@ same_body k k' now s c planned same body = record {
   bytes = body.bytes;
 }
 
-still_planned : (k k' : StoreState) (now : ℕ) (c : Command) (met body : ℕ) → IsUnchanged k k' → met ≡ k.sequence → body ≡ k'.planned → ((s : State) → StandsFor k s → IsSized k now s (One c) k'.planned) → Planned k' met body now (ask.Call c)
+still_planned : (k k' : KeptState) (now : ℕ) (c : Command) (met body : ℕ) → IsUnchanged k k' → met ≡ k.sequence → body ≡ k'.planned → ((s : State) → StandsFor k s → IsSized k now s (One c) k'.planned) → Planned k' met body now (ask.Call c)
 still_planned k k' now c met body same met_is body_is sized = (
   met_is ∙ sym same.sequence,
   λ s stands. ⊎_elim
@@ -80,7 +80,7 @@ still_planned k k' now c met body same met_is body_is sized = (
     reversed u = record { rows = sym u.rows; floor = sym u.floor; written = sym u.written; sequence = sym u.sequence }
 
 -- a sequence that has room, or needs none, stays within its limit
-within : (k k' : StoreState) → k'.sequence ≡ k.sequence + batches k'.planned → (0 < k'.planned → k.sequence < last_sequence) → k.sequence ≤ last_sequence → k'.sequence ≤ last_sequence
+within : (k k' : KeptState) → k'.sequence ≡ k.sequence + batches k'.planned → (0 < k'.planned → k.sequence < last_sequence) → k.sequence ≤ last_sequence → k'.sequence ≤ last_sequence
 within k k' more room limit = by_planned k'.planned refl
   where
     by_planned : (n : ℕ) → k'.planned ≡ n → k'.sequence ≤ last_sequence
@@ -91,17 +91,18 @@ within k k' more room limit = by_planned k'.planned refl
 module _ (old new : DeskParts) (now : ℕ) (c : Command) where
   -- all that is told but the history
   calls : (result : Result Reply DeskFault)
-      → ((opening : Opening) (seen : List Place) → Stands old.kept old.disk opening seen
-      → (after : List Place) × Stands new.kept new.disk opening after × Follows 0 seen after × Leaves 0 opening.state seen now (ask.Call c) result after)
+      → ((opening : Opening) (seen : List Place) → StoreStands old.kept opening seen
+      → (after : List Place) × StoreStands new.kept opening after × Follows 0 seen after × LeavesPlaces 0 opening.state seen now (ask.Call c) result after)
+      → ((failed : List Cmds) → IsKept old.disk old.kept failed → IsKept new.disk new.kept (failed_with (One c) result failed))
       → HasReason old.faults (told_of new) result
-      → ((opening : Opening) (seen : List Place) → Stands old.kept old.disk opening seen → IsFalse (writes c) → new.body ≡ 0)
+      → ((opening : Opening) (seen : List Place) → StoreStands old.kept opening seen → IsFalse (writes c) → new.body ≡ 0)
       → OnErr result (Planned new.kept new.sequence new.body now (ask.Call c))
       → new.fault ≡ fault_of result → old.faults ≤ new.faults → new.readings ≡ old.readings → new.last ≡ old.last
       → TakesCall (told_of old) (told_of new) now (ask.Call c) result
-  calls (Ok reply) history reason idle planned fault later readings last =
-      record { history = history; reason = reason; idle = idle; planned = planned; fault = fault; met = refl; later = later; readings = readings; last = last; number = refl; pinned = refl }
-  calls (Err e) history reason idle planned fault later readings last =
-      record { history = history; reason = reason; idle = idle; planned = planned; fault = fault; met = refl; later = later; readings = readings; last = last; number = refl; pinned = refl }
+  calls (Ok reply) history kept reason idle planned fault later readings last =
+      record { history = history; kept = kept; reason = reason; idle = idle; planned = planned; fault = fault; met = refl; later = later; readings = readings; last = last; number = refl; pinned = refl }
+  calls (Err e) history kept reason idle planned fault later readings last =
+      record { history = history; kept = kept; reason = reason; idle = idle; planned = planned; fault = fault; met = refl; later = later; readings = readings; last = last; number = refl; pinned = refl }
 
   pub desk_called : (result : Result Reply DeskFault)
       → IfOk result (λ reply. Plays old.kept new.kept now (One c) reply)
@@ -112,7 +113,7 @@ module _ (old new : DeskParts) (now : ℕ) (c : Command) where
       → OnErr result ((s : State) → StandsFor old.kept s → IsSized old.kept now s (One c) new.kept.planned)
       → OnErr result (IsUnchanged old.kept new.kept)
       → IfErr result (λ e. PlayFails old.faults new.faults old.kept.sequence new.kept.planned e)
-      → old.faults ≤ new.faults → (IsKept old.disk old.kept → IsKept new.disk new.kept)
+      → old.faults ≤ new.faults → ((failed : List Cmds) → IsKept old.disk old.kept failed → IsKept new.disk new.kept (failed_with (One c) result failed))
       → new.sequence ≡ old.kept.sequence → new.body ≡ new.kept.planned → new.fault ≡ fault_of result → new.readings ≡ old.readings → new.last ≡ old.last
       → TakesCall (told_of old) (told_of new) now (ask.Call c) result
   desk_called (Ok reply) plays more fits room planned sized same fails later kept sequence body fault readings last =
@@ -122,15 +123,15 @@ module _ (old new : DeskParts) (now : ℕ) (c : Command) where
       let next = plays.stands s stands.store in
       let went = goes_on reply now c new.kept.planned opening.last old.kept.sequence opening.state seen stands.alone stands.noted (plays.answer s stands.store) next.free in
       let count : batches new.kept.planned ≡ batches_of s now (One c) = batches_are old.kept now s (One c) new.kept.planned (planned s stands.store) in
-      let standing : Stands new.kept new.disk opening went.after = record {
+      let standing : StoreStands new.kept opening went.after = record {
         alone = went.alone;
         store = subst (StandsFor new.kept) (sym went.state) next;
-        keeps = kept stands.keeps;
         batches = omega (arith, more, count, stands.batches, went.batches);
         noted = subst (GoUp opening.last (sequences went.after)) (sym more) went.noted;
         limit = within old.kept new.kept more room stands.limit;
       } in
       (went.after, standing, went.follows, went.leaves))
+      kept
       (omega (arith, fits, body), λ some. (let left = room (omega (arith, some, body)) in omega (arith, left, sequence)))
       (λ opening seen stands reads. body ∙ no_body old.kept now (state_at opening.state seen) c new.kept.planned (planned (state_at opening.state seen) stands.store) reads)
       tt fault later readings last
@@ -138,15 +139,15 @@ module _ (old new : DeskParts) (now : ℕ) (c : Command) where
       calls (Err e)
       (λ opening seen stands.
       let went = stays_so now c e opening.last old.kept.sequence opening.state seen stands.alone stands.noted in
-      let standing : Stands new.kept new.disk opening went.after = record {
+      let standing : StoreStands new.kept opening went.after = record {
         alone = went.alone;
         store = subst (StandsFor new.kept) (sym went.state) (same_stands old.kept new.kept (state_at opening.state seen) same stands.store);
-        keeps = kept stands.keeps;
         batches = omega (arith, same.sequence, stands.batches, went.batches);
         noted = subst (GoUp opening.last (sequences went.after)) (sym same.sequence) went.noted;
         limit = omega (arith, same.sequence, stands.limit);
       } in
       (went.after, standing, went.follows, went.leaves))
+      kept
       (why old.faults new old.kept.sequence e sequence body fails)
       (λ opening seen stands reads. body ∙ sized_none old.kept now (state_at opening.state seen) c new.kept.planned (sized (state_at opening.state seen) stands.store) reads)
       (still_planned old.kept new.kept now c new.sequence new.body same sequence body sized)
@@ -155,7 +156,7 @@ module _ (old new : DeskParts) (now : ℕ) (c : Command) where
 -- ---- a session at the desk
 
 -- what such a body was planned for, by the machine
-unwritten_at : (k : StoreState) (sequence body now : ℕ) (c : Command) (s : State) → StandsFor k s → Planned k sequence body now (ask.Call c) → 0 < body → IsUnwritten s k.sequence now c body
+unwritten_at : (k : KeptState) (sequence body now : ℕ) (c : Command) (s : State) → StandsFor k s → Planned k sequence body now (ask.Call c) → 0 < body → IsUnwritten s k.sequence now c body
 unwritten_at k sequence body now c s stands planned some = ⊎_elim
     (λ (none : body ≡ 0). absurd (omega (arith, none, some)))
     (λ (here : IsBodyOfPlan k now s (One c) body). record {
@@ -193,14 +194,13 @@ module _ {D : Type 0} (parts : D → DeskParts) where
 -- ---- its beginning
 
 -- what a store stands for before any call
-abbrev pub opened_as : StoreState → State → Opening
+abbrev pub opened_as : KeptState → State → Opening
 opened_as k s = record { state = s; last = k.sequence }
 
-pub begins_to_stand : (k : StoreState) (disk : Disk) (s : State) → IsKept disk k → k.sequence ≤ last_sequence → StandsFor k s → Stands k disk (opened_as k s) []
-begins_to_stand k disk s keeps limit stands = record {
+pub begins_to_stand : (k : KeptState) (s : State) → k.sequence ≤ last_sequence → StandsFor k s → StoreStands k (opened_as k s) []
+begins_to_stand k s limit stands = record {
   alone = record { calls = tt; legal = tt; free = stands.free };
   store = stands;
-  keeps = keeps;
   batches = omega arith;
   noted = refl;
   limit = limit;

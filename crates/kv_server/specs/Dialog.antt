@@ -4,6 +4,7 @@ use Rattle.kv_base.specs.Map.{Bytes}
 use Rattle.kv_outside.specs.Causes.{Rose}
 use Rattle.batch_codec.specs.Batches.{Batch}
 use Rattle.redis_model.specs.declared.command.Command.{Command}
+use Rattle.redis_model.specs.declared.command.Cmds.{Cmds}
 use Rattle.redis_model.specs.declared.command.Cmds.TheVariants.{One}
 use Rattle.redis_model.specs.declared.desk.DeskFault.{DeskFault}
 use Rattle.redis_model.specs.declared.desk.DeskFault.TheVariants as desk_fault
@@ -52,28 +53,28 @@ HasFault old new now c desk_fault.TooBig = IsTooLong old now c × (old.sequence 
 HasFault old new now c _ = ⊥
 
 -- the state is as it was, or as a command leaves it that only reads
-abbrev pub IsWithheld : State → ℕ → Command → State → Type 0
-IsWithheld old now c new = (new ≡ old) ⊎ (IsFalse (writes c) × (new ≡ (step old (Call now 0 c)).1))
+abbrev pub LeavesState : State → ℕ → Command → State → Type 0
+LeavesState old now c new = (new ≡ old) ⊎ (IsFalse (writes c) × (new ≡ (step old (Call now 0 c)).1))
 
 -- A command at a reading of the clock has the machine's reply, and where it touches a key its batch has the next sequence; or
 -- it has a fault with its cause, which leaves the keys and the log's last sequence as they were.
-abbrev pub Answers : StoreState → ℕ → Command → Answer → StoreState → Type 0
-Answers old now c (answer.Reply reply) new = (step old.state (Call now 0 c) ≡ (Some reply, new.state)) × (new.sequence ≡ old.sequence + batches_of old.state now (One c)) × (new.sequence ≤ last_sequence)
-Answers old now c (answer.Fault fault) new = IsWithheld old.state now c new.state × (new.sequence ≡ old.sequence) × HasFault old new now c fault
-Answers old now c _ new = ⊥
+abbrev pub CommandAnswers : StoreState → ℕ → Command → Answer → StoreState → Type 0
+CommandAnswers old now c (answer.Reply reply) new = (step old.state (Call now 0 c) ≡ (Some reply, new.state)) × (new.sequence ≡ old.sequence + batches_of old.state now (One c)) × (new.sequence ≤ last_sequence)
+CommandAnswers old now c (answer.Fault fault) new = LeavesState old.state now c new.state × (new.sequence ≡ old.sequence) × HasFault old new now c fault
+CommandAnswers old now c _ new = ⊥
 
 -- What is asked for has this answer, at these readings of the clock: one where the machine is asked, for one command. What
 -- asks nothing of it has an answer of its own, and leaves the store alone.
-abbrev pub TurnBy : StoreState → Asked → List ℕ → Answer → StoreState → Type 0
-TurnBy old (ToDesk (ask.Call c)) nows answer new = (now : ℕ) × (nows ≡ now ∷ []) × Answers old now (due now c) answer new × (old.faults ≤ new.faults)
-TurnBy old (ToDesk _) nows answer new = ⊥
-TurnBy old (Own said) nows answer new = (answer ≡ said) × (nows ≡ []) × (new ≡ old)
+abbrev pub ExchangeBy : StoreState → Asked → List ℕ → Answer → StoreState → Type 0
+ExchangeBy old (ToDesk (ask.Call c)) nows answer new = (now : ℕ) × (nows ≡ now ∷ []) × CommandAnswers old now (due now c) answer new × (old.faults ≤ new.faults)
+ExchangeBy old (ToDesk _) nows answer new = ⊥
+ExchangeBy old (Own said) nows answer new = (answer ≡ said) × (nows ≡ []) × (new ≡ old)
 
 -- One request has this answer, as what its words are read into; memory may run out for that.
-pub record Turn (old : StoreState) (words : List Bytes) (nows : List ℕ) (answer : Answer) (new : StoreState) : Type 0 where
+pub record Exchange (old : StoreState) (words : List Bytes) (nows : List ℕ) (answer : Answer) (new : StoreState) : Type 0 where
   pub read : Result Parsed CommandFault
   pub is : IsParsed read (parsed_as words)
-  pub turn : TurnBy old (asked read) nows answer new
+  pub turn : ExchangeBy old (asked read) nows answer new
 
 -- From one state of the store to another, these requests have these answers, in order, at these readings of the clock.
 abbrev pub Dialog : StoreState → List (List Bytes) → List ℕ → List Answer → StoreState → Type 0
@@ -81,4 +82,22 @@ Dialog old [] nows [] new = (nows ≡ []) × (new ≡ old)
 Dialog old [] nows (answer ∷ answers) new = ⊥
 Dialog old (words ∷ others) nows [] new = ⊥
 Dialog old (words ∷ others) nows (answer ∷ answers) new =
-    (mid : StoreState) × (first : List ℕ) × (rest : List ℕ) × (nows ≡ first ++ rest) × Turn old words first answer mid × Dialog mid others rest answers new
+    (mid : StoreState) × (first : List ℕ) × (rest : List ℕ) × (nows ≡ first ++ rest) × Exchange old words first answer mid × Dialog mid others rest answers new
+
+-- ---- what failed
+
+-- A request asked for this command, whose amounts of time became deadlines at a reading, and was answered with a fault.
+pub record HasFailed (words : List Bytes) (said : Answer) (ds : Cmds) : Type 0 where
+  pub read : Result Parsed CommandFault
+  pub is : IsParsed read (parsed_as words)
+  pub command : Command
+  pub asks : asked read ≡ ToDesk (ask.Call command)
+  pub now : ℕ
+  pub due : ds ≡ One (due now command)
+  pub fault : DeskFault
+  pub failed : said ≡ answer.Fault fault
+
+-- one of these requests did, which had these answers
+abbrev pub OneFailed : List (List Bytes) → List Answer → Cmds → Type 0
+OneFailed (words ∷ others) (answer ∷ answers) ds = HasFailed words answer ds ⊎ OneFailed others answers ds
+OneFailed _ _ ds = ⊥

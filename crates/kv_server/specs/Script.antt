@@ -1,5 +1,5 @@
 -- What the script program promises.
-use Rattle.std.specs.Prelude.{◌≡◌, ◌≢◌, ◌≤◌, ◌⊎◌, ℕ, zero, suc, Option, Some, None, length, Bool, true, false, List, [], ◌∷◌, ◌++◌, ◌<◌, ◌^◌}
+use Rattle.std.specs.Prelude.{Contains, ◌≡◌, ◌≢◌, ◌≤◌, ◌⊎◌, ℕ, zero, suc, Option, Some, None, length, Bool, true, false, List, [], ◌∷◌, ◌++◌, ◌<◌, ◌^◌}
 use Rattle.std.specs.Io.KnownBytes.{Appends, Consumes}
 use Rattle.kv_base.specs.Map.{Bytes}
 use Rattle.kv_outside.specs.Readings.{next_reading, later_readings, TakesAll}
@@ -18,13 +18,14 @@ use Rattle.kv_conf.specs.declared.words.Words.TheVariants as words
 use Rattle.kv_base.specs.declared.fault.StoreFault.{StoreFault}
 use Rattle.kv_base.specs.declared.fault.StoreFault.TheVariants as fault
 use Rattle.kv_outside.specs.Causes.{Rose}
-use Rattle.kv_outside.specs.Disk.{Disk, Leaves}
+use Rattle.kv_outside.specs.Disk.{Disk, CrashLeaves}
 use Rattle.session.specs.Answer.{damage_line}
+use Rattle.redis_model.specs.declared.command.Cmds.{Cmds}
 use Rattle.redis_model.specs.Machine.{State}
 use Rattle.redis_model.specs.Value.{RedisMap}
 use Rattle.log_store.specs.Recover.{Recovered}
-use Rattle.log_store.specs.Keeping.{StoreState as KeptState, HoldsKeys, IsKept, StandsFor, log_file, IsStart, IsDamagedLog, FailsToOpen, ComesToKeys, Keeps, KeepsOrMore}
-use Rattle.kv_server.specs.Dialog.{StoreState, Dialog}
+use Rattle.log_store.specs.Keeping.{KeptState, HoldsKeys, IsKept, StandsFor, log_file, IsRecovered, IsDamagedLog, FailsToOpen, ComesToKeysAt, KeepsKeysOrMore}
+use Rattle.kv_server.specs.Dialog.{StoreState, Dialog, OneFailed}
 use Rattle.kv_server.specs.Outside.{Outside}
 
 abbrev pub names_script : Option Words → Bool
@@ -67,18 +68,23 @@ pub record Talked (old new : StoreState) (served : List (List Bytes)) (answers :
 abbrev pub store_of : State → KeptState → ℕ → StoreState
 store_of s kept faults = record { state = s; sequence = kept.sequence; faults = faults }
 
--- From a state that the store stood for, the answers are the machine's, and the store stands for the state at the end,
--- which the log on this disk keeps.
-pub record LeadsOn (old new : KeptState) (faults faults' : ℕ) (disk : Disk) (s : State) (served : List (List Bytes)) (answers : List Answer) (ahead ahead' : Option (List ℕ)) : Type 0 where
+-- From a state that the store stood for, the answers are the machine's, and the store stands for the state at the end.
+pub record LeadsOn (old new : KeptState) (faults faults' : ℕ) (s : State) (served : List (List Bytes)) (answers : List Answer) (ahead ahead' : Option (List ℕ)) : Type 0 where
   pub state : State
   pub stands : StandsFor new state
-  pub keeps : IsKept disk new
   pub talked : Talked (store_of s old faults) (store_of state new faults') served answers ahead ahead'
+
+-- The log keeps the store, but for one batch maybe, of a request among these that was answered with a fault.
+pub record KeepsAllBut (disk : Disk) (store : KeptState) (served : List (List Bytes)) (answers : List Answer) : Type 0 where
+  pub failed : List Cmds
+  pub were : (ds : Cmds) → Contains failed ds → OneFailed served answers ds
+  pub keeps : IsKept disk store failed
 
 -- A session was served over a store.
 pub record IsSession (o : Outcome) (kept kept' : KeptState) (old new : Outside) : Type 0 where
   pub ran : Ran o old new
-  pub leads : (s : State) → StandsFor kept s → LeadsOn kept kept' old.files new.files new.disk s ran.served ran.answers old.readings new.readings
+  pub keeps : KeepsAllBut new.disk kept' ran.served ran.answers
+  pub leads : (s : State) → StandsFor kept s → LeadsOn kept kept' old.files new.files s ran.served ran.answers old.readings new.readings
 
 -- ---- what is written, over an input that is told
 
@@ -93,9 +99,8 @@ AreTold None nows = Unit {0}
 AreTold (Some told) nows = nows ≡ first_readings (length nows) told
 
 -- What was written are the answers to these requests, and this line behind them.
-pub record OutputOf (old new : StoreState) (ahead held held' : Option (List ℕ)) (asked : List (List Bytes)) (line : Bytes) : Type 0 where
+pub record OutputOf (old new : StoreState) (ahead held held' : Option (List ℕ)) (asked : List (List Bytes)) (answers : List Answer) (line : Bytes) : Type 0 where
   pub nows : List ℕ
-  pub answers : List Answer
   pub told : AreTold ahead nows
   pub dialog : Dialog old asked nows answers new
   pub wrote : Appends held held' (text answers ++ line)
@@ -106,12 +111,10 @@ abbrev pub IsUnderWay : Bytes → List (List Bytes) → Bytes → Type 0
 IsUnderWay input served line = ((line ≡ []) × AreFirst served (up_to_quit (requests input).0)) ⊎ IsOff input served line
 
 -- A front of these answers and of the line was written.
-pub record FrontOf (old new : StoreState) (ahead held held' : Option (List ℕ)) (input : Bytes) : Type 0 where
-  pub served : List (List Bytes)
+pub record FrontOf (old new : StoreState) (ahead held held' : Option (List ℕ)) (input : Bytes) (served : List (List Bytes)) (answers : List Answer) : Type 0 where
   pub line : Bytes
   pub under_way : IsUnderWay input served line
   pub nows : List ℕ
-  pub answers : List Answer
   pub told : AreTold ahead nows
   pub dialog : Dialog old served nows answers new
   pub wrote : AppendsFront held held' (text answers ++ line)
@@ -127,18 +130,19 @@ EndsBadly input = (has_quit (requests input).0 ≡ false) × ((requests input).1
 -- The input was answered to its end, or up to a QUIT and no further. Nothing but the answers was written.
 abbrev pub IsAnswered : StoreState → StoreState → Option (List ℕ) → Option (List ℕ) → Option (List ℕ) → Option (List ℕ) → Type 0
 IsAnswered old new None ahead held held' = Unit {0}
-IsAnswered old new (Some input) ahead held held' = OutputOf old new ahead held held' (up_to_quit (requests input).0) [] × IsComplete input
+IsAnswered old new (Some input) ahead held held' = (answers : List Answer) × OutputOf old new ahead held held' (up_to_quit (requests input).0) answers [] × IsComplete input
 
 -- All requests before a fault of the wire were answered, and behind the answers a line tells its kind and its place. An end
 -- inside a request is told so too.
-abbrev pub IsRejected : StoreState → StoreState → Option (List ℕ) → Option (List ℕ) → Option (List ℕ) → Option (List ℕ) → Type 0
-IsRejected old new None ahead held held' = Unit {0}
-IsRejected old new (Some input) ahead held held' = OutputOf old new ahead held held' (requests input).0 (end_line (length input) (requests input).1) × EndsBadly input
+abbrev pub IsRejected : StoreState → StoreState → List (List Bytes) → List Answer → Option (List ℕ) → Option (List ℕ) → Option (List ℕ) → Option (List ℕ) → Type 0
+IsRejected old new served answers None ahead held held' = Unit {0}
+IsRejected old new served answers (Some input) ahead held held' =
+    (served ≡ (requests input).0) × OutputOf old new ahead held held' served answers (end_line (length input) (requests input).1) × EndsBadly input
 
 -- The sink has a front of the answers to the input, and of the line behind them.
-abbrev pub HasFront : StoreState → StoreState → Option (List ℕ) → Option (List ℕ) → Option (List ℕ) → Option (List ℕ) → Type 0
-HasFront old new None ahead held held' = Unit {0}
-HasFront old new (Some input) ahead held held' = FrontOf old new ahead held held' input
+abbrev pub HasFront : StoreState → StoreState → List (List Bytes) → List Answer → Option (List ℕ) → Option (List ℕ) → Option (List ℕ) → Option (List ℕ) → Type 0
+HasFront old new served answers None ahead held held' = Unit {0}
+HasFront old new served answers (Some input) ahead held held' = FrontOf old new ahead held held' input served answers
 
 -- The input is told, holds a QUIT or ends between requests, and has fewer bytes than are taken from one source.
 abbrev pub IsWhole : Option (List ℕ) → Type 0
@@ -166,16 +170,16 @@ abbrev pub IsWritten : Bytes → Option (List ℕ) → Option (List ℕ) → ℕ
 IsWritten line held held' before now = Appends held held' line ⊎ (AppendsFront held held' line × Rose before now)
 
 -- damage is told in a line, and nothing is written for another fault
-abbrev pub Tells : StoreFault → Option (List ℕ) → Option (List ℕ) → ℕ → ℕ → Type 0
-Tells (fault.Damaged file place) held held' before now = IsWritten (damage_line file place) held held' before now
-Tells _ held held' before now = held' ≡ held
+abbrev pub TellsFault : StoreFault → Option (List ℕ) → Option (List ℕ) → ℕ → ℕ → Type 0
+TellsFault (fault.Damaged file place) held held' before now = IsWritten (damage_line file place) held held' before now
+TellsFault _ held held' before now = held' ≡ held
 
 -- The store was not opened, and no input was taken.
 pub record IsRefused (n : ℕ) (old new : Outside) : Type 0 where
   pub fault : StoreFault
   pub status : n ≡ opening_status fault
   pub cause : FailsToOpen old.disk old.files new.files fault
-  pub wrote : Tells fault old.held new.held old.sink new.sink
+  pub wrote : TellsFault fault old.held new.held old.sink new.sink
   pub untaken : new.left ≡ old.left
 
 -- the store that a log was opened as, whose rows hold these keys, where calls to the files have failed so often
@@ -185,35 +189,29 @@ store_from r keys faults = record { state = record { keys = keys; floor = r.floo
 -- The log that this disk had was opened, and where its rows hold keys, this holds of the store that begins with them.
 pub record Opened (disk : Disk) (files : ℕ) (Holds : StoreState → Type 0) : Type 0 where
   pub start : Recovered
-  pub begins : IsStart disk start
+  pub begins : IsRecovered disk start
   pub faults : ℕ
   pub since : files ≤ faults
   pub holds : (keys : RedisMap) → HoldsKeys start keys → Holds (store_from start keys faults)
 
--- these bytes of the log come to the keys of this store, and to the sequence of its last batch
-pub record ComesToStore (s : StoreState) (bytes : Bytes) : Type 0 where
-  pub comes : ComesToKeys s.state.floor s.state.keys bytes
-  pub sequence : comes.state.sequence ≡ s.sequence
-
--- each image of the log that a crash may leave now does
+-- each image of the log that a crash may leave now comes to the keys of this store, and to the sequence of its last batch
 abbrev pub LeavesKeys : Disk → StoreState → Type 0
-LeavesKeys disk s = Leaves disk log_file (ComesToStore s)
+LeavesKeys disk s = CrashLeaves disk log_file (ComesToKeysAt s.sequence s.state.floor s.state.keys)
 
--- It comes to the rows of a store that stands for this one, or to them after one batch more, which failed.
-pub record LeavesKeysOrMore (disk : Disk) (s : StoreState) : Type 0 where
-  pub store : KeptState
-  pub stands : StandsFor store s.state
-  pub sequence : store.sequence ≡ s.sequence
-  pub leaves : Keeps disk store ⊎ KeepsOrMore disk store
+-- It comes to them, or to the keys after one batch more: that of a request among these which was answered with a fault.
+pub record LeavesKeysOrMore (disk : Disk) (s : StoreState) (served : List (List Bytes)) (answers : List Answer) : Type 0 where
+  pub failed : List Cmds
+  pub were : (ds : Cmds) → Contains failed ds → OneFailed served answers ds
+  pub leaves : LeavesKeys disk s ⊎ KeepsKeysOrMore disk s.sequence s.state failed
 
 -- From the store that was opened, the answers are the machine's. With status 0 the log comes to the keys and to the
--- sequence at the end, at any crash from then on; with another one it may come to them after one batch more.
+-- sequence at the end, at any crash from then on; with another one it may come to the keys after one batch more.
 pub record Went (n : ℕ) (new : Outside) (served : List (List Bytes)) (answers : List Answer) (ahead : Option (List ℕ)) (first : StoreState) : Type 0 where
   pub last : StoreState
   pub until : last.faults ≤ new.files
   pub talked : Talked first last served answers ahead new.readings
   pub kept : n ≡ 0 → LeavesKeys new.disk last
-  pub kept_or_more : LeavesKeysOrMore new.disk last
+  pub kept_or_more : LeavesKeysOrMore new.disk last served answers
 
 -- A session was served.
 pub record IsServed (n : ℕ) (old new : Outside) : Type 0 where
@@ -235,19 +233,23 @@ pub record IsGood (disk' : Disk) (files' : ℕ) (left ahead held held' : Option 
   pub kept : LeavesKeys disk' last
 
 -- What a run says whose input is off the grammar, or ends inside a request: the answers to all requests before, and the
--- line. The log comes to the keys at the end, or to them after one batch more.
+-- line. The log comes to the keys at the end, or to those after one batch more.
 pub record IsFaultTold (disk' : Disk) (files' : ℕ) (left ahead held held' : Option (List ℕ)) (first : StoreState) : Type 0 where
   pub last : StoreState
   pub until : last.faults ≤ files'
-  pub rejected : IsRejected first last left ahead held held'
-  pub kept_or_more : LeavesKeysOrMore disk' last
+  pub served : List (List Bytes)
+  pub answers : List Answer
+  pub rejected : IsRejected first last served answers left ahead held held'
+  pub kept_or_more : LeavesKeysOrMore disk' last served answers
 
 -- What a run says whose sink failed: a front of the answers, and of the line behind them.
 pub record IsFront (disk' : Disk) (files' : ℕ) (left ahead held held' : Option (List ℕ)) (first : StoreState) : Type 0 where
   pub last : StoreState
   pub until : last.faults ≤ files'
-  pub front : HasFront first last left ahead held held'
-  pub kept_or_more : LeavesKeysOrMore disk' last
+  pub served : List (List Bytes)
+  pub answers : List Answer
+  pub front : HasFront first last served answers left ahead held held'
+  pub kept_or_more : LeavesKeysOrMore disk' last served answers
 
 -- the log is damaged, which was told
 pub record IsDamageTold (disk : Disk) (held held' : Option (List ℕ)) (sink sink' : ℕ) : Type 0 where

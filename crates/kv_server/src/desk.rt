@@ -1,7 +1,7 @@
 ghost use Rattle.std.specs.Prelude.{◌≡◌, ◌≤◌};
 ghost use Rattle.redis_model.specs.Desk.{last_sequence};
 
-use crate::keeper::Keeper;
+use crate::store::Store;
 use kv_outside::{Clock, Files};
 use redis_model::{Cmds, Command, Desk, DeskFault, Reply, fault_in};
 use std::alloc::Global;
@@ -9,7 +9,7 @@ use std::alloc::Global;
 /// The desk of the only caller of a store that is kept by a log. It borrows all that it works on, so that what it leaves
 /// is known when it is given up.
 #[derive(Drop)]
-pub struct LogDesk<'a, P: Keeper<F>, F: Files, C: Clock> {
+pub struct LogDesk<'a, P: Store<F>, F: Files, C: Clock> {
     alloc: Global,
     kept: &'a mut P,
     files: &'a mut F,
@@ -23,7 +23,7 @@ pub struct LogDesk<'a, P: Keeper<F>, F: Files, C: Clock> {
     body: u64,
 }
 
-impl<'a, P: Keeper<F>, F: Files, C: Clock> LogDesk<'a, P, F, C> {
+impl<'a, P: Store<F>, F: Files, C: Clock> LogDesk<'a, P, F, C> {
     /// The desk of a store and the files that keep it, at a clock.
     pub fn new(
         alloc: Global,
@@ -55,18 +55,19 @@ impl<'a, P: Keeper<F>, F: Files, C: Clock> LogDesk<'a, P, F, C> {
     }
 }
 
-impl<'a, P: Keeper<F>, F: Files, C: Clock> Desk for LogDesk<'a, P, F, C> {
-    ghost use Rattle.std.specs.Prelude.{[], ◌∷◌, ◌≡◌, IsTrue, Some, false};
+impl<'a, P: Store<F>, F: Files, C: Clock> Desk for LogDesk<'a, P, F, C> {
+    ghost use Rattle.std.specs.Prelude.{[], ◌∷◌, ◌≡◌, List, IsTrue, Some, false};
     ghost use Rattle.kv_outside.specs.Disk.{Touches};
     ghost use Rattle.redis_model.specs.Asks as ask;
     ghost use Rattle.redis_model.specs.Built.{built};
     ghost use Rattle.redis_model.specs.Desk.{TakesCall};
     ghost use Rattle.redis_model.specs.Limits.{IsWithin, IsDue};
     ghost use Rattle.redis_model.specs.Machine.{State};
+    ghost use Rattle.redis_model.specs.declared.command.Cmds.{Cmds};
     ghost use Rattle.redis_model.specs.declared.command.Cmds.TheVariants.{One};
     ghost use Rattle.log_store.specs.Keeping.{IsKept, StandsFor, log_file};
     ghost use Rattle.log_store.specs.Playing.{IsBeforeOrAfter};
-    ghost use Rattle.kv_server.specs.Alone.{knows_alone};
+    ghost use Rattle.kv_server.specs.AloneLaws.{knows_alone};
     ghost use Rattle.kv_server.specs.Standing.{parts, told_of};
 
     ghost told = { λ d. told_of (parts (P.kept d.kept.now) (F.disk d.files.now) (F.faults d.files.now)
@@ -99,13 +100,13 @@ impl<'a, P: Keeper<F>, F: Files, C: Clock> Desk for LogDesk<'a, P, F, C> {
             ≡ self.old.kept.ghost_name ∷ self.old.files.ghost_name ∷ self.old.clock.ghost_name ∷ [] }
         // A crash at any moment leaves the keys before the call, or those after it.
         ensures any_moment { (P.kept self.old.kept.now).log.unsure ≡ false
-            → IsKept (F.disk self.old.files.now) (P.kept self.old.kept.now)
+            → (failed : List Cmds) → IsKept (F.disk self.old.files.now) (P.kept self.old.kept.now) failed
             → (s : State) → StandsFor (P.kept self.old.kept.now) s
             → Touches log_file (F.disk self.old.files.now) (F.disk self.new.files.now) (IsBeforeOrAfter s now (One command)) }
     {
         self.sequence = self.kept.last_sequence();
         let commands = Cmds::One(command);
-        let answer = self.kept.carry_out(self.alloc, self.files, now, &commands);
+        let answer = self.kept.execute(self.alloc, self.files, now, &commands);
         drop(commands);
         self.body = self.kept.planned();
         self.fault = fault_in(&answer);

@@ -2,9 +2,10 @@
 #![tactic(auto)]
 
 mod desk;
-mod keeper;
 mod laws;
 mod planner;
+mod run;
+mod store;
 mod top;
 
 pub use laws::{a_first_run_begins_with_no_keys, a_run_begins_with_what_was_left};

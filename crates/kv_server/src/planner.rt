@@ -4,7 +4,7 @@ ghost use Rattle.redis_model.specs.Built.{built};
 ghost use Rattle.redis_model.specs.Desk.{last_sequence};
 ghost use Rattle.redis_model.specs.Limits.{IsWithin};
 ghost use Rattle.lives_model.specs.Plans.{IsPlanned};
-ghost use Rattle.lives_model.specs.Views.{Reads};
+ghost use Rattle.lives_model.specs.Views.{ReadsView};
 
 use kv_base::StoreFault;
 use lives_model::{Plan, Planner, RawView};
@@ -52,7 +52,7 @@ fn plan_one<V: RawView>(
     requires built { IsTrue (built command.now) }
     ensures plan { IfOk result (λ plan. IfSome (V.told view.old).rows
         (λ c. IsPlanned c moment base (One command.now) plan.batch plan.reply plan.until)) }
-    ensures reads { Reads (V.told view.old) (V.told view.new) result }
+    ensures reads { ReadsView (V.told view.old) (V.told view.new) result }
 {
     if command.is_keyless() {
         return Ok(plan_no_keys(alloc, command)?);

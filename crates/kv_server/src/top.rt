@@ -1,125 +1,23 @@
-ghost use Rattle.std.specs.Prelude.{◌≡◌, ◌≢◌, ◌≤◌, ◌⊎◌, ◌↔◌, map, false, string_bytes};
+ghost use Rattle.std.specs.Prelude.{◌≡◌, ◌≢◌, ◌⊎◌, IfSome, IfNone, map, true, false, string_bytes};
 ghost use Rattle.kv_outside.specs.Causes.{Rose};
-ghost use Rattle.session.specs.Session.{IsCaused};
-ghost use Rattle.log_store.specs.Keeping.{IsKept, Keeps, KeepsOrMore};
 ghost use Rattle.kv_server.specs.Outside.{outside};
-ghost use Rattle.kv_server.specs.Script.{is_script as is_script_line, status, opening_status, unclosed_status, EndsWith, Tells, IsSession, IsRun, IsGood, IsFaultTold, IsFront, IsDamageTold, IsWhole, Opened};
+ghost use Rattle.kv_server.specs.Script.{is_script, IsRun, IsGood, IsFaultTold, IsFront, IsDamageTold, IsWhole, Opened};
 
-use crate::desk::LogDesk;
-use crate::keeper::Keeper;
-use kv_base::StoreFault;
-use kv_conf::{Asked, judge};
+use crate::run::run;
+use kv_conf::{Words, WordsFault, read_words};
 use kv_outside::{Clock, Files, Sink, Source};
-use log_store::LogStore;
-use session::{Outcome, serve_session, write_damaged};
 use std::alloc::Global;
 
-/// Whether the words are those of `script`.
-fn is_script(words: &[String]) -> bool
-    ensures { result ≡ is_script_line (map (λ word. string_bytes word) words.now) }
+/// The status of words that are not those of `script`, or that there is no memory to read.
+fn refusal(alloc: Global, words: &[String]) -> Option<u8>
+    ensures script { IfNone result (is_script (map (λ word. string_bytes word) words.now) ≡ true) }
+    ensures refused { IfSome result (λ status. ((status ≡ 1) × (is_script (map (λ word. string_bytes word) words.now) ≡ false)) ⊎ (status ≡ 4)) }
 {
-    matches!(judge(words), Some(Asked::Script(_)))
-}
-
-/// The status where the store was not opened. Damage is told in a line.
-fn refuse<K: Sink>(fault: StoreFault, sink: &mut K) -> u8
-    ensures status { result ≡ opening_status fault }
-    ensures wrote { Tells fault (K.held sink.old) (K.held sink.new) (K.faults sink.old) (K.faults sink.new) }
-{
-    match fault {
-        StoreFault::Failed => 2,
-        StoreFault::Damaged { file, place } => {
-            let _ = write_damaged(file, place, sink);
-            3
-        }
-        StoreFault::NoMem => 4,
+    match read_words(alloc, words) {
+        Ok(Words::Script(_)) => None,
+        Ok(_) | Err(WordsFault::Usage) => Some(1),
+        Err(WordsFault::NoMem) => Some(4),
     }
-}
-
-/// One session from the source to the sink, over an open store.
-pub(crate) fn serve<'a, S: Source, K: Sink, P: Keeper<F>, F: Files, C: Clock>(
-    alloc: Global,
-    kept: &'a mut P,
-    source: &mut S,
-    sink: &mut K,
-    files: &'a mut F,
-    clock: &'a mut C,
-) -> Outcome
-    ensures session { IsKept (F.disk files.old) (P.kept kept.old)
-        → IsSession result (P.kept kept.old) (P.kept kept.new)
-        (outside (F.disk files.old) (F.faults files.old) (C.readings clock.old)
-        (S.left source.old) (S.ended source.old) (S.faults source.old)
-        (K.held sink.old) (K.faults sink.old))
-        (outside (F.disk files.new) (F.faults files.new) (C.readings clock.new)
-        (S.left source.new) (S.ended source.new) (S.faults source.new)
-        (K.held sink.new) (K.faults sink.new)) }
-    ensures caused { IsCaused result
-        (S.faults source.old) (S.faults source.new) (K.faults sink.old) (K.faults sink.new) }
-    ensures later { F.faults files.old ≤ F.faults files.new }
-{
-    let mut desk = LogDesk::new(alloc, kept, files, clock);
-    serve_session(alloc, &mut desk, source, sink)
-}
-
-fn status_of(outcome: Outcome) -> u8
-    ensures { result ≡ status outcome }
-{
-    match outcome {
-        Outcome::Closed => 0,
-        Outcome::NoMem => 4,
-        Outcome::ReadFault => 5,
-        Outcome::WriteFault => 6,
-        Outcome::Protocol => 7,
-        Outcome::Spent => 8,
-    }
-}
-
-/// The status where the log could not be closed.
-fn status_unclosed(outcome: Outcome) -> u8
-    ensures { result ≡ unclosed_status outcome }
-{
-    match outcome {
-        Outcome::Closed => 2,
-        other => status_of(other),
-    }
-}
-
-/// Closes the store behind a session.
-fn finish<F: Files>(store: &mut LogStore<F>, files: &mut F, outcome: Outcome) -> u8
-    ensures ends { EndsWith outcome result (F.faults files.old) (F.faults files.new) }
-    ensures later { F.faults files.old ≤ F.faults files.new }
-    ensures kept { result ≡ 0 → IsKept (F.disk files.old) store.old → Keeps (F.disk files.new) store.old }
-    ensures kept_or_more { IsKept (F.disk files.old) store.old
-        → Keeps (F.disk files.new) store.old ⊎ KeepsOrMore (F.disk files.new) store.old }
-{
-    match store.close(files) {
-        Ok(()) => status_of(outcome),
-        Err(_) => status_unclosed(outcome),
-    }
-}
-
-/// Opens the store, serves one session and closes it again.
-fn run<S: Source, K: Sink, F: Files, C: Clock>(
-    alloc: Global,
-    source: &mut S,
-    sink: &mut K,
-    files: &mut F,
-    clock: &mut C,
-) -> u8
-    ensures { IsRun result
-        (outside (F.disk files.old) (F.faults files.old) (C.readings clock.old)
-        (S.left source.old) (S.ended source.old) (S.faults source.old)
-        (K.held sink.old) (K.faults sink.old))
-        (outside (F.disk files.new) (F.faults files.new) (C.readings clock.new)
-        (S.left source.new) (S.ended source.new) (S.faults source.new)
-        (K.held sink.new) (K.faults sink.new)) }
-{
-    let mut store = match LogStore::open(alloc, files) {
-        Ok(store) => store,
-        Err(fault) => return refuse(fault, sink),
-    };
-    let outcome = serve(alloc, &mut store, source, sink, files, clock);
-    finish(&mut store, files, outcome)
 }
 
 /// `kvr script`: one session from the source to the sink, over the store that the log `wal-1` keeps. A SET is answered
@@ -128,9 +26,10 @@ fn run<S: Source, K: Sink, F: Files, C: Clock>(
 /// The words are `script --dir D` or `script --dir=D`, by the grammar of command lines. The status is 0 where the client
 /// quit or the input was read to its end between requests, 1 for other words, 2 where a call to the files failed at the
 /// opening or the closing, 3 where the log is damaged, which a line tells with the file and the place, 4 where there was
-/// no memory for the store or a request, 5 and 6 where the source or the sink failed, 7 where the input is off the
-/// wire's grammar or ends inside a request, which a line tells with the place, and 8 where 2^40 bytes were taken. Nothing behind a `QUIT` is answered. Commands are answered as the Redis command reference says; the
-/// order of refusals and the statuses are this server's own.
+/// no memory for the words, the store or a request, 5 and 6 where the source or the sink failed, 7 where the input is
+/// off the wire's grammar or ends inside a request, which a line tells with the place, and 8 where 2^40 bytes were
+/// taken. Nothing behind a `QUIT` is answered. Commands are answered as the Redis command reference says; the order of
+/// refusals and the statuses are this server's own.
 pub fn top_script<S: Source, K: Sink, F: Files, C: Clock>(
     alloc: Global,
     words: &[String],
@@ -139,8 +38,10 @@ pub fn top_script<S: Source, K: Sink, F: Files, C: Clock>(
     files: &mut F,
     clock: &mut C,
 ) -> u8
-    ensures usage { (result ≡ 1) ↔ (is_script_line (map (λ word. string_bytes word) words.now) ≡ false) }
-    ensures untouched { result ≡ 1 → (source.new ≡ source.old) × (sink.new ≡ sink.old)
+    ensures usage { result ≡ 1 → is_script (map (λ word. string_bytes word) words.now) ≡ false }
+    ensures refused { is_script (map (λ word. string_bytes word) words.now) ≡ false → (result ≡ 1) ⊎ (result ≡ 4) }
+    ensures untouched { is_script (map (λ word. string_bytes word) words.now) ≡ false
+        → (source.new ≡ source.old) × (sink.new ≡ sink.old)
         × (files.new ≡ files.old) × (clock.new ≡ clock.old) }
 
     // How it went: the store was not opened, or a session was served from the keys that the log came to.
@@ -181,8 +82,8 @@ pub fn top_script<S: Source, K: Sink, F: Files, C: Clock>(
     ensures input_fault { result ≡ 5 → Rose (S.faults source.old) (S.faults source.new) }
     ensures output_fault { result ≡ 6 → Rose (K.faults sink.old) (K.faults sink.new) }
 {
-    if !is_script(words) {
-        return 1;
+    if let Some(status) = refusal(alloc, words) {
+        return status;
     }
     run(alloc, source, sink, files, clock)
 }

@@ -1,14 +1,15 @@
 -- What a batch adds to a log, and what a store then keeps.
 use Rattle.std.proofs.Common.{◌≡◌, ◌⊎◌, ⊎_elim, inl, inr, ℕ, ◌+◌, ◌<◌, ◌≤◌, ◌^◌, Bool, true, false, cond, List, [], ◌∷◌, ◌++◌, length, Option, Some, None, Result, Ok, Err, refl, sym, ap, subst, ◌∙◌, arith}
-use Rattle.std.specs.Prelude.{◌==◌, ◌&&◌, nat_le}
+use Rattle.std.specs.Prelude.{IsErrAnd, ◌==◌, ◌&&◌, nat_le}
 use Rattle.std.proofs.lemmas.Bool.Decides.{nat_tests}
+use Rattle.std.proofs.lemmas.List.Elements.{Contains-append_left, Contains-push}
 use Rattle.kv_base.specs.Map.{Bytes}
 use Rattle.kv_base.specs.declared.name.FileName.{FileName}
-use Rattle.kv_outside.specs.Disk.{Disk, Leaves, Touches}
-use Rattle.kv_outside.specs.Runs.{run_weaken, begin_run}
-use Rattle.gated_log.specs.Gated.{records, IsBeforeOrAfter}
+use Rattle.kv_outside.specs.Disk.{Disk, CrashLeaves, Touches}
+use Rattle.kv_outside.specs.RunLaws.{run_weaken, begin_run}
+use Rattle.gated_log.specs.Gated.{records, HasRecordsOrOneMore}
 use Rattle.gated_log.specs.States.{LogState, Rests, Wavers, IsLeft}
-use Rattle.gated_log.specs.Still.{rests_records, wavers_records}
+use Rattle.gated_log.specs.StillLaws.{rests_records, wavers_records}
 use Rattle.batch_codec.specs.Batches.{Batch, after}
 use Rattle.batch_codec.specs.Bodies.{body_of, is_seq, is_moment}
 use Rattle.batch_codec.specs.BodyLaws.{IsWritable}
@@ -16,11 +17,14 @@ use Rattle.batch_codec.specs.declared.record.Record.{Record}
 use Rattle.wal_log.specs.Segments.{is_next, record_behind, records_of, last_behind}
 use Rattle.wal_log.specs.SegmentLaws.{segment_of-records, records_of-push, record_behind-written}
 use Rattle.wal_log.specs.declared.segment.Stamp.{Stamp}
+use Rattle.redis_model.specs.declared.command.Cmds.{Cmds}
+use Rattle.redis_model.specs.declared.desk.DeskFault.{DeskFault}
+use Rattle.redis_model.specs.Desk.{failed_with}
 use Rattle.redis_model.specs.Machine.{State}
 use Rattle.lives_model.specs.Rows.{Rows}
 use Rattle.log_store.specs.Recover.{Recovered, before_all, nothing, with_batch, with_record, with_records, recovered_by, recovered}
-use Rattle.log_store.specs.Planned.{IsOfCommands}
-use Rattle.log_store.specs.Keeping.{log_file, StoreState, state_of, StandsFor, IsAttempt, Attempted, Holds, IsKept, ComesTo, ComesToEither, ComesToKeys, Keeps, KeepsOrMore}
+use Rattle.log_store.specs.Planned.{IsBatchOf}
+use Rattle.log_store.specs.Keeping.{log_file, KeptState, state_of, StandsFor, IsAttempt, Attempted, HoldsBodies, IsKept, ComesTo, ComesToEither, ComesToKeys, Keeps, KeepsOrMore}
 use Rattle.log_store.specs.KeepLaws.{stands_comes}
 use Rattle.log_store.specs.Playing.{IsWrite}
 use Rattle.log_store.proofs.Replaying.{stamp_in, with_records-stamp}
@@ -84,21 +88,21 @@ is_added bodies records state floor batch moment body read made low write =
 -- ---- what a store keeps
 
 -- what the log was left with, whatever its last append came to
-holds_left : (unsure : Bool) (disk : Disk) (log : LogState) (bodies : List Bytes) (state : Recovered) → Holds unsure disk log bodies state → (tried : Bytes) × IsLeft unsure disk log bodies tried
-holds_left true disk log bodies state holds = (holds.tried, holds.wavers)
-holds_left false disk log bodies state holds = ([], holds)
+holds_left : (unsure : Bool) (disk : Disk) (log : LogState) (bodies : List Bytes) (state : Recovered) (failed : List Cmds) → HoldsBodies unsure disk log bodies state failed → (tried : Bytes) × IsLeft unsure disk log bodies tried
+holds_left true disk log bodies state failed holds = (holds.tried, holds.wavers)
+holds_left false disk log bodies state failed holds = ([], holds)
 
-holds_rests : (unsure : Bool) (disk : Disk) (log : LogState) (bodies : List Bytes) (state : Recovered) → unsure ≡ false → Holds unsure disk log bodies state → Rests disk log bodies
-holds_rests true disk log bodies state sure holds = absurd (cc)
-holds_rests false disk log bodies state sure holds = holds
+holds_rests : (unsure : Bool) (disk : Disk) (log : LogState) (bodies : List Bytes) (state : Recovered) (failed : List Cmds) → unsure ≡ false → HoldsBodies unsure disk log bodies state failed → Rests disk log bodies
+holds_rests true disk log bodies state failed sure holds = absurd (cc)
+holds_rests false disk log bodies state failed sure holds = holds
 
-rests_hold : (unsure : Bool) (disk : Disk) (log : LogState) (bodies : List Bytes) (state : Recovered) → unsure ≡ false → Rests disk log bodies → Holds unsure disk log bodies state
-rests_hold true disk log bodies state sure rests = absurd (cc)
-rests_hold false disk log bodies state sure rests = rests
+rests_hold : (unsure : Bool) (disk : Disk) (log : LogState) (bodies : List Bytes) (state : Recovered) (failed : List Cmds) → unsure ≡ false → Rests disk log bodies → HoldsBodies unsure disk log bodies state failed
+rests_hold true disk log bodies state failed sure rests = absurd (cc)
+rests_hold false disk log bodies state failed sure rests = rests
 
 -- where only the floor rose, or nothing changed
-pub kept_still : (disk : Disk) (old new : StoreState) → new.rows ≡ old.rows → new.written ≡ old.written → new.log ≡ old.log → new.sequence ≡ old.sequence → IsKept disk old → IsKept disk new
-kept_still disk old new rows written log sequence kept =
+pub kept_still : (disk : Disk) (old new : KeptState) (failed : List Cmds) → new.rows ≡ old.rows → new.written ≡ old.written → new.log ≡ old.log → new.sequence ≡ old.sequence → IsKept disk old failed → IsKept disk new failed
+kept_still disk old new failed rows written log sequence kept =
     let same : state_of old ≡ state_of new = λ i. record { rows = sym rows i; floor = sym written i; sequence = sym sequence i } in
     record {
       bodies = kept.bodies;
@@ -106,42 +110,69 @@ kept_still disk old new rows written log sequence kept =
       name = ap (λ (l : LogState). l.name) log ∙ kept.name;
       read = kept.read;
       made = kept.made ∙ same;
-      holds = subst (λ (s : Recovered). Holds new.log.unsure disk new.log kept.bodies s) same
-          (subst (λ (l : LogState). Holds l.unsure disk l kept.bodies (state_of old)) (sym log) kept.holds);
+      holds = subst (λ (s : Recovered). HoldsBodies new.log.unsure disk new.log kept.bodies s failed) same
+          (subst (λ (l : LogState). HoldsBodies l.unsure disk l kept.bodies (state_of old) failed) (sym log) kept.holds);
     }
 
+-- more calls may have failed
+holds_more : (unsure : Bool) (disk : Disk) (log : LogState) (bodies : List Bytes) (state : Recovered) (failed : List Cmds) (ds : Cmds) → HoldsBodies unsure disk log bodies state failed → HoldsBodies unsure disk log bodies state (failed ++ ds ∷ [])
+holds_more true disk log bodies state failed ds a = record {
+  tried = a.tried;
+  record_tried = a.record_tried;
+  commands = a.commands;
+  among = Contains-append_left failed (ds ∷ []) a.commands a.among;
+  wavers = a.wavers;
+  attempt = a.attempt;
+}
+holds_more false disk log bodies state failed ds rests = rests
+
+pub kept_more : (disk : Disk) (store : KeptState) (failed : List Cmds) (ds : Cmds) → IsKept disk store failed → IsKept disk store (failed ++ ds ∷ [])
+kept_more disk store failed ds kept = record {
+  bodies = kept.bodies;
+  records = kept.records;
+  name = kept.name;
+  read = kept.read;
+  made = kept.made;
+  holds = holds_more store.log.unsure disk store.log kept.bodies (state_of store) failed ds kept.holds;
+}
+
+-- as it is after this call, which failed
+pub kept_failed : {A : Type 0} (P : DeskFault → Type 0) (r : Result A DeskFault) → IsErrAnd r P → (disk : Disk) (store : KeptState) (failed : List Cmds) (ds : Cmds) → IsKept disk store (failed ++ ds ∷ []) → IsKept disk store (failed_with ds r failed)
+kept_failed P (Ok x) is disk store failed ds kept = absurd is
+kept_failed P (Err e) is disk store failed ds kept = kept
+
 -- a batch behind what is kept
-batch_behind : (disk : Disk) (old : StoreState) (batch : Batch) (moment : ℕ) (body : Bytes) → old.written ≤ old.floor → IsWrite old.sequence old.floor batch moment body → (kept : IsKept disk old)
+batch_behind : (disk : Disk) (old : KeptState) (batch : Batch) (moment : ℕ) (body : Bytes) (failed : List Cmds) → old.written ≤ old.floor → IsWrite old.sequence old.floor batch moment body → (kept : IsKept disk old failed)
     → IsAdded kept.bodies kept.records (state_of old) body (record_of old.sequence moment batch)
-batch_behind disk old batch moment body past write kept =
+batch_behind disk old batch moment body failed past write kept =
     is_added kept.bodies kept.records (state_of old) old.floor batch moment body kept.read kept.made past write
 
 -- the batch is in the log
-pub kept_added : (before now : Disk) (old new : StoreState) (seen done : LogState) (batch : Batch) (moment : ℕ) (body : Bytes) → old.written ≤ old.floor → IsWrite old.sequence old.floor batch moment body
+pub kept_added : (before now : Disk) (old new : KeptState) (seen done : LogState) (batch : Batch) (moment : ℕ) (body : Bytes) → old.written ≤ old.floor → IsWrite old.sequence old.floor batch moment body
     → seen ≡ old.log → new.log ≡ done
     → ((bodies : List Bytes) (tried : Bytes) → IsLeft seen.unsure before seen bodies tried → Rests now done (bodies ++ body ∷ []))
     → done.unsure ≡ false → done.name ≡ seen.name → state_of new ≡ with_batch (state_of old) batch moment
-    → IsKept before old → IsKept now new
-kept_added before now old new seen done batch moment body past write was is added sure name more kept =
-    let behind = batch_behind before old batch moment body past write kept in
-    let holds : Holds seen.unsure before seen kept.bodies (state_of old) = subst (λ (l : LogState). Holds l.unsure before l kept.bodies (state_of old)) (sym was) kept.holds in
-    let left = holds_left seen.unsure before seen kept.bodies (state_of old) holds in
+    → (failed : List Cmds) → IsKept before old failed → IsKept now new failed
+kept_added before now old new seen done batch moment body past write was is added sure name more failed kept =
+    let behind = batch_behind before old batch moment body failed past write kept in
+    let holds : HoldsBodies seen.unsure before seen kept.bodies (state_of old) failed = subst (λ (l : LogState). HoldsBodies l.unsure before l kept.bodies (state_of old) failed) (sym was) kept.holds in
+    let left = holds_left seen.unsure before seen kept.bodies (state_of old) failed holds in
     record {
       bodies = kept.bodies ++ body ∷ [];
       records = kept.records ++ record_of old.sequence moment batch ∷ [];
       name = ap (λ (l : LogState). l.name) is ∙ name ∙ ap (λ (l : LogState). l.name) was ∙ kept.name;
       read = behind.read;
       made = behind.made ∙ sym more;
-      holds = subst (λ (l : LogState). Holds l.unsure now l (kept.bodies ++ body ∷ []) (state_of new)) (sym is)
-          (rests_hold done.unsure now done (kept.bodies ++ body ∷ []) (state_of new) sure (added kept.bodies left.0 left.1));
+      holds = subst (λ (l : LogState). HoldsBodies l.unsure now l (kept.bodies ++ body ∷ []) (state_of new) failed) (sym is)
+          (rests_hold done.unsure now done (kept.bodies ++ body ∷ []) (state_of new) failed sure (added kept.bodies left.0 left.1));
     }
 
 -- the body that was tried is that of this batch
-batch_tried : (disk : Disk) (old : StoreState) (batch : Batch) (moment : ℕ) (body : Bytes) → old.written ≤ old.floor → IsWrite old.sequence old.floor batch moment body
-    → IsOfCommands old.rows moment old.sequence batch → (kept : IsKept disk old)
-    → IsAttempt kept.bodies body (state_of old) (record_of old.sequence moment batch)
-batch_tried disk old batch moment body past write of kept =
-    let more = batch_behind disk old batch moment body past write kept in
+batch_tried : (disk : Disk) (old : KeptState) (ds : Cmds) (batch : Batch) (moment : ℕ) (body : Bytes) (failed : List Cmds) → old.written ≤ old.floor → IsWrite old.sequence old.floor batch moment body
+    → IsBatchOf old.rows moment old.sequence ds batch → (kept : IsKept disk old failed)
+    → IsAttempt kept.bodies body (state_of old) (record_of old.sequence moment batch) ds
+batch_tried disk old ds batch moment body failed past write of kept =
+    let more = batch_behind disk old batch moment body failed past write kept in
     record {
       sequence = refl;
       later = omega (arith, past, write.later);
@@ -149,40 +180,51 @@ batch_tried disk old batch moment body past write of kept =
       made = ap recovered_by more.read ∙ ap (λ (s : Recovered). Ok s) more.made;
     }
 
-still_holds : (was unsure : Bool) (before now : Disk) (old new : LogState) (bodies : List Bytes) (state : Recovered) (r : Record) (body : Bytes) → IsAttempt bodies body state r
+still_holds : (was unsure : Bool) (before now : Disk) (old new : LogState) (bodies : List Bytes) (state : Recovered) (r : Record) (body : Bytes) (ds : Cmds) (failed : List Cmds) → IsAttempt bodies body state r ds
     → ((tried : Bytes) → IsLeft was before old bodies tried → IsLeft unsure now new bodies tried ⊎ IsLeft unsure now new bodies body)
-    → Holds was before old bodies state → Holds unsure now new bodies state
-still_holds true true before now old new bodies state r body attempt left holds = ⊎_elim
-    (λ (w : Wavers now new bodies holds.tried). record { tried = holds.tried; record_tried = holds.record_tried; wavers = w; attempt = holds.attempt })
-    (λ (w : Wavers now new bodies body). record { tried = body; record_tried = r; wavers = w; attempt = attempt })
-    (left holds.tried holds.wavers)
-still_holds false true before now old new bodies state r body attempt left holds = ⊎_elim
-    (λ (w : Wavers now new bodies body). record { tried = body; record_tried = r; wavers = w; attempt = attempt })
-    (λ (w : Wavers now new bodies body). record { tried = body; record_tried = r; wavers = w; attempt = attempt })
-    (left body holds)
-still_holds true false before now old new bodies state r body attempt left holds = ⊎_elim
+    → HoldsBodies was before old bodies state failed → HoldsBodies unsure now new bodies state (failed ++ ds ∷ [])
+still_holds was true before now old new bodies state r body ds failed attempt left holds = by_last was left holds
+  where
+    this : Wavers now new bodies body → Attempted now new bodies state (failed ++ ds ∷ [])
+    this w = record { tried = body; record_tried = r; commands = ds; among = Contains-push failed ds; wavers = w; attempt = attempt }
+
+    by_last : (b : Bool) → ((tried : Bytes) → IsLeft b before old bodies tried → Wavers now new bodies tried ⊎ Wavers now new bodies body)
+        → HoldsBodies b before old bodies state failed → Attempted now new bodies state (failed ++ ds ∷ [])
+    by_last true left a = ⊎_elim
+        (λ (w : Wavers now new bodies a.tried). record {
+          tried = a.tried;
+          record_tried = a.record_tried;
+          commands = a.commands;
+          among = Contains-append_left failed (ds ∷ []) a.commands a.among;
+          wavers = w;
+          attempt = a.attempt;
+        })
+        this
+        (left a.tried a.wavers)
+    by_last false left rests = ⊎_elim this this (left body rests)
+still_holds true false before now old new bodies state r body ds failed attempt left holds = ⊎_elim
     (λ (r : Rests now new bodies). r) (λ (r : Rests now new bodies). r) (left holds.tried holds.wavers)
-still_holds false false before now old new bodies state r body attempt left holds = ⊎_elim
+still_holds false false before now old new bodies state r body ds failed attempt left holds = ⊎_elim
     (λ (r : Rests now new bodies). r) (λ (r : Rests now new bodies). r) (left body holds)
 
 -- the batch is not in the log, or its gate was tried
-pub kept_left : (before now : Disk) (old new : StoreState) (seen done : LogState) (batch : Batch) (moment : ℕ) (body : Bytes) → old.written ≤ old.floor → IsWrite old.sequence old.floor batch moment body
+pub kept_left : (before now : Disk) (old new : KeptState) (seen done : LogState) (batch : Batch) (moment : ℕ) (body : Bytes) → old.written ≤ old.floor → IsWrite old.sequence old.floor batch moment body
     → seen ≡ old.log → new.log ≡ done
     → ((bodies : List Bytes) (tried : Bytes) → IsLeft seen.unsure before seen bodies tried
     → IsLeft done.unsure now done bodies tried ⊎ IsLeft done.unsure now done bodies body)
     → done.name ≡ seen.name → state_of new ≡ state_of old
-    → IsOfCommands old.rows moment old.sequence batch → IsKept before old → IsKept now new
-kept_left before now old new seen done batch moment body past write was is left name same of kept = record {
+    → (ds : Cmds) (failed : List Cmds) → IsBatchOf old.rows moment old.sequence ds batch → IsKept before old failed → IsKept now new (failed ++ ds ∷ [])
+kept_left before now old new seen done batch moment body past write was is left name same ds failed of kept = record {
   bodies = kept.bodies;
   records = kept.records;
   name = ap (λ (l : LogState). l.name) is ∙ name ∙ ap (λ (l : LogState). l.name) was ∙ kept.name;
   read = kept.read;
   made = kept.made ∙ sym same;
-  holds = subst (λ (s : Recovered). Holds new.log.unsure now new.log kept.bodies s) (sym same)
-      (subst (λ (l : LogState). Holds l.unsure now l kept.bodies (state_of old)) (sym is)
-      (still_holds seen.unsure done.unsure before now seen done kept.bodies (state_of old) (record_of old.sequence moment batch) body
-      (batch_tried before old batch moment body past write of kept) (left kept.bodies)
-      (subst (λ (l : LogState). Holds l.unsure before l kept.bodies (state_of old)) (sym was) kept.holds)));
+  holds = subst (λ (s : Recovered). HoldsBodies new.log.unsure now new.log kept.bodies s (failed ++ ds ∷ [])) (sym same)
+      (subst (λ (l : LogState). HoldsBodies l.unsure now l kept.bodies (state_of old) (failed ++ ds ∷ [])) (sym is)
+      (still_holds seen.unsure done.unsure before now seen done kept.bodies (state_of old) (record_of old.sequence moment batch) body ds failed
+      (batch_tried before old ds batch moment body failed past write of kept) (left kept.bodies)
+      (subst (λ (l : LogState). HoldsBodies l.unsure before l kept.bodies (state_of old) failed) (sym was) kept.holds)));
 }
 
 -- ---- what a crash leaves
@@ -191,80 +233,82 @@ kept_left before now old new seen done batch moment body past write was is left 
 comes_to : (bytes : Bytes) (bodies : List Bytes) (rs : List Record) (state : Recovered) → records bytes ≡ bodies → records_of before_all bodies ≡ Ok rs → with_records nothing rs ≡ state → recovered bytes ≡ Ok state
 comes_to bytes bodies rs state is read made = ap recovered_by (segment_of-records before_all bytes bodies is ∙ read) ∙ ap (λ (s : Recovered). Ok s) made
 
-leaves_at : (disk : Disk) (at name : FileName) (P : Bytes → Type 0) → at ≡ name → Leaves disk at P → Leaves disk name P
-leaves_at disk at name P is leaves = subst (λ (n : FileName). Leaves disk n P) is leaves
+leaves_at : (disk : Disk) (at name : FileName) (P : Bytes → Type 0) → at ≡ name → CrashLeaves disk at P → CrashLeaves disk name P
+leaves_at disk at name P is leaves = subst (λ (n : FileName). CrashLeaves disk n P) is leaves
 
-pub leaves_more : (disk : Disk) (name : FileName) (P Q : Bytes → Type 0) → ((c : Bytes) → P c → Q c) → Leaves disk name P → Leaves disk name Q
+pub leaves_more : (disk : Disk) (name : FileName) (P Q : Bytes → Type 0) → ((c : Bytes) → P c → Q c) → CrashLeaves disk name P → CrashLeaves disk name Q
 leaves_more disk name P Q leads leaves = record { each = λ c image. leads c (leaves.each c image) }
 
 -- bytes with the bodies that are kept come to the rows
-kept_comes : (disk : Disk) (old : StoreState) (kept : IsKept disk old) (c : Bytes) → records c ≡ kept.bodies → ComesTo (state_of old) c
-kept_comes disk old kept c is = comes_to c kept.bodies kept.records (state_of old) is kept.read kept.made
+kept_comes : (disk : Disk) (old : KeptState) (failed : List Cmds) (kept : IsKept disk old failed) (c : Bytes) → records c ≡ kept.bodies → ComesTo (state_of old) c
+kept_comes disk old failed kept c is = comes_to c kept.bodies kept.records (state_of old) is kept.read kept.made
 
 -- at any moment of the append the log comes to the rows before, or to those after
-pub either_rows : (before now : Disk) (old : StoreState) (seen : LogState) (batch : Batch) (moment : ℕ) (body : Bytes) → old.written ≤ old.floor → IsWrite old.sequence old.floor batch moment body
+pub either_rows : (before now : Disk) (old : KeptState) (seen : LogState) (batch : Batch) (moment : ℕ) (body : Bytes) → old.written ≤ old.floor → IsWrite old.sequence old.floor batch moment body
     → seen ≡ old.log
-    → (seen.unsure ≡ false → (bodies : List Bytes) → Rests before seen bodies → Touches seen.name before now (IsBeforeOrAfter bodies body))
-    → old.log.unsure ≡ false → IsKept before old
+    → (seen.unsure ≡ false → (bodies : List Bytes) → Rests before seen bodies → Touches seen.name before now (HasRecordsOrOneMore bodies body))
+    → old.log.unsure ≡ false → (failed : List Cmds) → IsKept before old failed
     → Touches log_file before now (ComesToEither (state_of old) batch moment)
-either_rows before now old seen batch moment body past write was run sure kept =
-    let more = batch_behind before old batch moment body past write kept in
+either_rows before now old seen batch moment body past write was run sure failed kept =
+    let more = batch_behind before old batch moment body failed past write kept in
     let rests : Rests before seen kept.bodies =
-    subst (λ (l : LogState). Rests before l kept.bodies) (sym was) (holds_rests old.log.unsure before old.log kept.bodies (state_of old) sure kept.holds) in
-    let here : Touches log_file before now (IsBeforeOrAfter kept.bodies body) =
-    subst (λ (n : FileName). Touches n before now (IsBeforeOrAfter kept.bodies body)) (ap (λ (l : LogState). l.name) was ∙ kept.name)
+    subst (λ (l : LogState). Rests before l kept.bodies) (sym was) (holds_rests old.log.unsure before old.log kept.bodies (state_of old) failed sure kept.holds) in
+    let here : Touches log_file before now (HasRecordsOrOneMore kept.bodies body) =
+    subst (λ (n : FileName). Touches n before now (HasRecordsOrOneMore kept.bodies body)) (ap (λ (l : LogState). l.name) was ∙ kept.name)
     (run (ap (λ (l : LogState). l.unsure) was ∙ sure) kept.bodies rests) in
-    run_weaken log_file before now (IsBeforeOrAfter kept.bodies body) (ComesToEither (state_of old) batch moment) here (λ c is. ⊎_elim
-    (λ (e : records c ≡ kept.bodies). inl (kept_comes before old kept c e))
+    run_weaken log_file before now (HasRecordsOrOneMore kept.bodies body) (ComesToEither (state_of old) batch moment) here (λ c is. ⊎_elim
+    (λ (e : records c ≡ kept.bodies). inl (kept_comes before old failed kept c e))
     (λ (e : records c ≡ kept.bodies ++ body ∷ []). inr (comes_to c (kept.bodies ++ body ∷ []) (kept.records ++ record_of old.sequence moment batch ∷ []) (with_batch (state_of old) batch moment) e more.read more.made))
     is)
 
 -- where no call was made, it comes to the rows before
-pub still_comes : (disk : Disk) (old : StoreState) (P : Bytes → Type 0) → old.log.unsure ≡ false → IsKept disk old → ((c : Bytes) → ComesTo (state_of old) c → P c) → Touches log_file disk disk P
-still_comes disk old P sure kept leads =
-    let rests = holds_rests old.log.unsure disk old.log kept.bodies (state_of old) sure kept.holds in
+pub still_comes : (disk : Disk) (old : KeptState) (P : Bytes → Type 0) → old.log.unsure ≡ false → (failed : List Cmds) → IsKept disk old failed → ((c : Bytes) → ComesTo (state_of old) c → P c) → Touches log_file disk disk P
+still_comes disk old P sure failed kept leads =
+    let rests = holds_rests old.log.unsure disk old.log kept.bodies (state_of old) failed sure kept.holds in
     begin_run log_file disk P
-    (leaves_more disk log_file (λ c. records c ≡ kept.bodies) P (λ c is. leads c (kept_comes disk old kept c is))
+    (leaves_more disk log_file (λ c. records c ≡ kept.bodies) P (λ c is. leads c (kept_comes disk old failed kept c is))
     (leaves_at disk old.log.name log_file (λ c. records c ≡ kept.bodies) kept.name (rests_records disk old.log kept.bodies rests)))
 
 -- ---- an end
 
 -- a log that is not unsure any more leaves the rows
-pub keeps_mended : (before now : Disk) (old : StoreState) (log : LogState) → log.name ≡ old.log.name
+pub keeps_mended : (before now : Disk) (old : KeptState) (log : LogState) → log.name ≡ old.log.name
     → ((bodies : List Bytes) (tried : Bytes) → IsLeft old.log.unsure before old.log bodies tried → Rests now log bodies)
-    → IsKept before old → Keeps now old
-keeps_mended before now old log name mended kept =
-    let left = holds_left old.log.unsure before old.log kept.bodies (state_of old) kept.holds in
-    leaves_more now log_file (λ c. records c ≡ kept.bodies) (ComesTo (state_of old)) (λ c is. kept_comes before old kept c is)
+    → (failed : List Cmds) → IsKept before old failed → Keeps now old
+keeps_mended before now old log name mended failed kept =
+    let left = holds_left old.log.unsure before old.log kept.bodies (state_of old) failed kept.holds in
+    leaves_more now log_file (λ c. records c ≡ kept.bodies) (ComesTo (state_of old)) (λ c is. kept_comes before old failed kept c is)
     (leaves_at now log.name log_file (λ c. records c ≡ kept.bodies) (name ∙ kept.name) (rests_records now log kept.bodies (mended kept.bodies left.0 left.1)))
 
 -- and so the keys that they hold
-pub keeps_keys : (disk : Disk) (old : StoreState) (s : State) → StandsFor old s → Keeps disk old → Leaves disk log_file (ComesToKeys s.floor s.keys)
+pub keeps_keys : (disk : Disk) (old : KeptState) (s : State) → StandsFor old s → Keeps disk old → CrashLeaves disk log_file (ComesToKeys s.floor s.keys)
 keeps_keys disk old s stands keeps = leaves_more disk log_file (ComesTo (state_of old)) (ComesToKeys s.floor s.keys) (stands_comes old s stands) keeps
 
 -- one that is unsure still leaves the rows, or those after the batch that was tried
-pub keeps_unsure : (before now : Disk) (old : StoreState) (log : LogState) (unsure : Bool) → old.log.unsure ≡ unsure → unsure ≡ true → log.name ≡ old.log.name
+pub keeps_unsure : (before now : Disk) (old : KeptState) (log : LogState) (unsure : Bool) → old.log.unsure ≡ unsure → unsure ≡ true → log.name ≡ old.log.name
     → ((bodies : List Bytes) (tried : Bytes) → IsLeft unsure before old.log bodies tried → Wavers now log bodies tried)
-    → IsKept before old → KeepsOrMore now old
-keeps_unsure before now old log false is unsure name left kept = absurd (cc)
-keeps_unsure before now old log true is unsure name left kept =
-    let a : Attempted before old.log kept.bodies (state_of old) = subst (λ (b : Bool). Holds b before old.log kept.bodies (state_of old)) is kept.holds in
+    → (failed : List Cmds) → IsKept before old failed → KeepsOrMore now old failed
+keeps_unsure before now old log false is unsure name left failed kept = absurd (cc)
+keeps_unsure before now old log true is unsure name left failed kept =
+    let a : Attempted before old.log kept.bodies (state_of old) failed = subst (λ (b : Bool). HoldsBodies b before old.log kept.bodies (state_of old) failed) is kept.holds in
     let batch : Batch = a.record_tried.batch in
     let moment : ℕ = a.record_tried.moment in
     record {
+      commands = a.commands;
+      among = a.among;
       batch = batch;
       moment = moment;
       later = a.attempt.later;
       of = a.attempt.of;
-      leaves = leaves_more now log_file (IsBeforeOrAfter kept.bodies a.tried) (ComesToEither (state_of old) a.record_tried.batch a.record_tried.moment)
+      leaves = leaves_more now log_file (HasRecordsOrOneMore kept.bodies a.tried) (ComesToEither (state_of old) a.record_tried.batch a.record_tried.moment)
           (λ c one. ⊎_elim
-          (λ (e : records c ≡ kept.bodies). inl (kept_comes before old kept c e))
+          (λ (e : records c ≡ kept.bodies). inl (kept_comes before old failed kept c e))
           (λ (e : records c ≡ kept.bodies ++ a.tried ∷ []). inr (after_tried a c e))
           one)
-          (leaves_at now log.name log_file (IsBeforeOrAfter kept.bodies a.tried) (name ∙ kept.name) (wavers_records now log kept.bodies a.tried (left kept.bodies a.tried a.wavers)));
+          (leaves_at now log.name log_file (HasRecordsOrOneMore kept.bodies a.tried) (name ∙ kept.name) (wavers_records now log kept.bodies a.tried (left kept.bodies a.tried a.wavers)));
     }
   where
-    after_tried : (a : Attempted before old.log kept.bodies (state_of old)) → (c : Bytes) → records c ≡ kept.bodies ++ a.tried ∷ [] → ComesTo (with_batch (state_of old) a.record_tried.batch a.record_tried.moment) c
+    after_tried : (a : Attempted before old.log kept.bodies (state_of old) failed) → (c : Bytes) → records c ≡ kept.bodies ++ a.tried ∷ [] → ComesTo (with_batch (state_of old) a.record_tried.batch a.record_tried.moment) c
     after_tried a c is =
         ap recovered_by (segment_of-records before_all c (kept.bodies ++ a.tried ∷ []) is) ∙ a.attempt.made
         ∙ ap (λ (n : ℕ). Ok (record { rows = after old.rows a.record_tried.batch; floor = a.record_tried.moment; sequence = n })) a.attempt.sequence

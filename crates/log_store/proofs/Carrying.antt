@@ -1,9 +1,9 @@
 -- How a plan that is carried out answers as the machine does.
-use Rattle.std.proofs.Common.{◌≡◌, ⊎_elim, inl, inr, ℕ, zero, suc, ◌+◌, ◌^◌, false, cond, Option, Some, refl, sym, ap, subst, ◌∙◌, arith}
+use Rattle.std.proofs.Common.{◌≡◌, ⊎_elim, inl, inr, ℕ, zero, suc, ◌+◌, ◌^◌, false, cond, Option, Some, refl, sym, ap, subst, List, ◌∙◌, arith}
 use Rattle.std.specs.Prelude.{◌==◌, if◌then◌else◌, min, max}
 use Rattle.kv_base.specs.Map.{Bytes}
 use Rattle.kv_outside.specs.Disk.{Disk, Touches}
-use Rattle.kv_outside.specs.Runs.{run_weaken}
+use Rattle.kv_outside.specs.RunLaws.{run_weaken}
 use Rattle.gated_log.specs.States.{LogState}
 use Rattle.batch_codec.specs.Batches.{Batch, after}
 use Rattle.redis_model.specs.declared.command.Cmds.{Cmds}
@@ -14,13 +14,13 @@ use Rattle.redis_model.specs.Value.{RedisMap, alive}
 use Rattle.lives_model.specs.Rows.{Rows}
 use Rattle.lives_model.specs.Means.{Means}
 use Rattle.lives_model.specs.CleanLaws.{means_later}
-use Rattle.lives_model.specs.Joined.{after-empty, plan_means}
-use Rattle.lives_model.specs.MeansOne.{means_one}
+use Rattle.lives_model.specs.JoinedBatchLaws.{after-empty, plan_means}
+use Rattle.lives_model.specs.MeansOneLaws.{means_one}
 use Rattle.lives_model.specs.Plans.{AreAsked, IsPlanFor}
-use Rattle.lives_model.specs.Steps.{alive_means}
-use Rattle.log_store.specs.Planned.{IsOfCommands, IsPlannedNext}
+use Rattle.lives_model.specs.StepLaws.{alive_means}
+use Rattle.log_store.specs.Planned.{IsBatchOf, IsPlannedNext}
 use Rattle.log_store.specs.Recover.{Recovered, with_batch}
-use Rattle.log_store.specs.Keeping.{log_file, state_of, HoldsKeys, IsKept, StoreState, StandsFor, ComesTo, ComesToEither, ComesToKeys}
+use Rattle.log_store.specs.Keeping.{log_file, state_of, HoldsKeys, IsKept, KeptState, StandsFor, ComesTo, ComesToEither, ComesToKeys}
 use Rattle.log_store.specs.KeepLaws.{comes_to_keys, holds_after, holds_alike, stands_later, stands_mean}
 use Rattle.log_store.specs.Playing.{entry, batches, planned_for, IsBeforeOrAfter, IsBodyOfPlan, Plays}
 use Rattle.log_store.specs.PlayLaws.{none_planned, not_none, some_batch}
@@ -29,44 +29,44 @@ use Rattle.log_store.proofs.Appending.{kept_still, still_comes}
 -- ---- the moment of a call
 
 -- another state of a store of the same rows, floor, log and last batch
-pub record IsSame (old mid : StoreState) : Type 0 where
+pub record IsSame (old mid : KeptState) : Type 0 where
   pub rows : mid.rows ≡ old.rows
   pub floor : mid.floor ≡ old.floor
   pub written : mid.written ≡ old.written
   pub log : mid.log ≡ old.log
   pub sequence : mid.sequence ≡ old.sequence
 
-pub same_but_planned : (old : StoreState) (rows : Rows) (floor written : ℕ) (log : LogState) (sequence planned next : ℕ)
+pub same_but_planned : (old : KeptState) (rows : Rows) (floor written : ℕ) (log : LogState) (sequence planned next : ℕ)
     → record { rows = rows; floor = floor; written = written; log = log; sequence = sequence; planned = planned } ≡ old
     → IsSame old (record { rows = rows; floor = floor; written = written; log = log; sequence = sequence; planned = next })
 same_but_planned old rows floor written log sequence planned next is = record {
-  rows = ap (λ (s : StoreState). s.rows) is;
-  floor = ap (λ (s : StoreState). s.floor) is;
-  written = ap (λ (s : StoreState). s.written) is;
-  log = ap (λ (s : StoreState). s.log) is;
-  sequence = ap (λ (s : StoreState). s.sequence) is;
+  rows = ap (λ (s : KeptState). s.rows) is;
+  floor = ap (λ (s : KeptState). s.floor) is;
+  written = ap (λ (s : KeptState). s.written) is;
+  log = ap (λ (s : KeptState). s.log) is;
+  sequence = ap (λ (s : KeptState). s.sequence) is;
 }
 
-pub same_kept : (disk : Disk) (old mid : StoreState) → IsSame old mid → IsKept disk old → IsKept disk mid
-same_kept disk old mid same kept = kept_still disk old mid same.rows same.written same.log same.sequence kept
+pub same_kept : (disk : Disk) (old mid : KeptState) (failed : List Cmds) → IsSame old mid → IsKept disk old failed → IsKept disk mid failed
+same_kept disk old mid failed same kept = kept_still disk old mid failed same.rows same.written same.log same.sequence kept
 
 -- a plan that was made at the moment of a call
-pub record IsPlanAt (old mid : StoreState) (now : ℕ) (ds : Cmds) (b : Batch) (answer : Reply) (until : Option ℕ) (moment : ℕ) : Type 0 where
+pub record IsPlanAt (old mid : KeptState) (now : ℕ) (ds : Cmds) (b : Batch) (answer : Reply) (until : Option ℕ) (moment : ℕ) : Type 0 where
   pub same : IsSame old mid
   pub at : moment ≡ max mid.floor (min now (2 ^ 61))
   pub asked : AreAsked ds
   pub planned : IsPlannedNext mid.rows moment mid.sequence ds b answer until
 
-moment_is : (old mid : StoreState) (s : State) (now moment : ℕ) → IsSame old mid → StandsFor old s → moment ≡ max mid.floor (min now (2 ^ 61)) → moment ≡ moment_at s now
+moment_is : (old mid : KeptState) (s : State) (now moment : ℕ) → IsSame old mid → StandsFor old s → moment ≡ max mid.floor (min now (2 ^ 61)) → moment ≡ moment_at s now
 moment_is old mid s now moment same stands is = is ∙ ap (λ (f : ℕ). max f (min now 2305843009213693952)) (same.floor ∙ sym stands.floor)
 
--- the batch of a plan is one of commands
-pub of_commands : (old mid : StoreState) (now : ℕ) (ds : Cmds) (b : Batch) (answer : Reply) (until : Option ℕ) (moment : ℕ) → IsPlanAt old mid now ds b answer until moment
-    → IsOfCommands mid.rows moment mid.sequence b
-of_commands old mid now ds b answer until moment plan = record { commands = ds; answer = answer; until = until; asked = plan.asked; plan = plan.planned }
+-- the batch of a plan is that of its commands
+pub of_commands : (old mid : KeptState) (now : ℕ) (ds : Cmds) (b : Batch) (answer : Reply) (until : Option ℕ) (moment : ℕ) → IsPlanAt old mid now ds b answer until moment
+    → IsBatchOf mid.rows moment mid.sequence ds b
+of_commands old mid now ds b answer until moment plan = record { answer = answer; until = until; asked = plan.asked; plan = plan.planned }
 
 -- what the rows mean at the moment of a call
-means_now : (old : StoreState) (s : State) (now : ℕ) → StandsFor old s → Means old.rows (moment_at s now) (at_moment s now).keys
+means_now : (old : KeptState) (s : State) (now : ℕ) → StandsFor old s → Means old.rows (moment_at s now) (at_moment s now).keys
 means_now old s now stands = means_later old.rows old.floor (moment_at s now) s.keys (omega (arith, stands.floor)) (stands_mean old s stands)
 
 -- ---- what the machine does
@@ -76,7 +76,7 @@ unfolding step
 step_is s now (One c) = refl
 step_is s now (Many cs) = refl
 
-module _ (old mid : StoreState) (now : ℕ) (ds : Cmds) (b : Batch) (answer : Reply) (until : Option ℕ) (moment : ℕ) (plan : IsPlanAt old mid now ds b answer until moment) (s : State) (stands : StandsFor old s) where
+module _ (old mid : KeptState) (now : ℕ) (ds : Cmds) (b : Batch) (answer : Reply) (until : Option ℕ) (moment : ℕ) (plan : IsPlanAt old mid now ds b answer until moment) (s : State) (stands : StandsFor old s) where
   -- the plan of a call, at the moment that the machine has
   planned_at : IsPlannedNext old.rows (moment_at s now) old.sequence ds b answer until
   planned_at =
@@ -96,11 +96,11 @@ module _ (old mid : StoreState) (now : ℕ) (ds : Cmds) (b : Batch) (answer : Re
   holds_then =
       subst (λ (m : RedisMap). HoldsKeys (with_batch (state_of old) b (moment_at s now)) (fold m (moment_at s now) ds).1)
       (sym (stands_later old s stands (moment_at s now) (omega (arith, stands.floor))))
-      (holds_after (state_of old) stands.at_last_batch b (moment_at s now) stands.holds (omega (arith, stands.past, stands.floor))
-      (record { commands = ds; answer = answer; until = until; asked = plan.asked; plan = planned_at }))
+      (holds_after (state_of old) stands.at_last_batch ds b (moment_at s now) stands.holds (omega (arith, stands.past, stands.floor))
+      (record { answer = answer; until = until; asked = plan.asked; plan = planned_at }))
 
 -- a plan that was carried out answers as the machine, and leaves a store that stands for the machine's state
-pub plays : (old mid new : StoreState) (now : ℕ) (ds : Cmds) (b : Batch) (answer : Reply) (until : Option ℕ) (moment planned : ℕ) → IsPlanAt old mid now ds b answer until moment
+pub plays : (old mid new : KeptState) (now : ℕ) (ds : Cmds) (b : Batch) (answer : Reply) (until : Option ℕ) (moment planned : ℕ) → IsPlanAt old mid now ds b answer until moment
     → planned ≡ planned_for b → new.rows ≡ after mid.rows b → new.floor ≡ moment → new.written ≡ (if planned == 0 then mid.written else new.floor) → new.sequence ≡ mid.sequence + batches planned
     → Plays old new now ds answer
 plays old mid new now ds b answer until moment planned plan bytes rows floor written sequence = record {
@@ -152,7 +152,7 @@ plays old mid new now ds b answer until moment planned plan bytes rows floor wri
         }
 
 -- and so many bytes has its body
-pub body_is_planned : (old mid : StoreState) (now : ℕ) (ds : Cmds) (b : Batch) (answer : Reply) (until : Option ℕ) (moment planned : ℕ) → IsPlanAt old mid now ds b answer until moment
+pub body_is_planned : (old mid : KeptState) (now : ℕ) (ds : Cmds) (b : Batch) (answer : Reply) (until : Option ℕ) (moment planned : ℕ) → IsPlanAt old mid now ds b answer until moment
     → planned ≡ planned_for b → (s : State) → StandsFor old s → IsBodyOfPlan old now s ds planned
 body_is_planned old mid now ds b answer until moment planned plan is s stands =
     record { batch = b; answer = answer; until = until; plan = plan_for old mid now ds b answer until moment plan s stands; bytes = is }
@@ -160,18 +160,18 @@ body_is_planned old mid now ds b answer until moment planned plan is s stands =
 -- ---- what a crash leaves
 
 -- a log that comes to the rows before a call comes to the keys before it
-keys_before : (old : StoreState) (s : State) (now : ℕ) → StandsFor old s → (c : Bytes) → ComesTo (state_of old) c → ComesToKeys (moment_at s now) (at_moment s now).keys c
+keys_before : (old : KeptState) (s : State) (now : ℕ) → StandsFor old s → (c : Bytes) → ComesTo (state_of old) c → ComesToKeys (moment_at s now) (at_moment s now).keys c
 keys_before old s now stands =
     comes_to_keys (state_of old) (moment_at s now) stands.at_last_batch (at_moment s now).keys stands.holds (omega (arith, stands.past, stands.floor))
     (stands_later old s stands (moment_at s now) (omega (arith, stands.floor)))
 
 -- the log comes to the keys before a call, or to those after it
-pub keys_come : (before now_disk : Disk) (old mid : StoreState) (now : ℕ) (ds : Cmds) (b : Batch) (answer : Reply) (until : Option ℕ) (moment : ℕ) → IsPlanAt old mid now ds b answer until moment
-    → (mid.log.unsure ≡ false → IsKept before mid → Touches log_file before now_disk (ComesToEither (state_of mid) b moment))
-    → old.log.unsure ≡ false → IsKept before old → (s : State) → StandsFor old s → Touches log_file before now_disk (IsBeforeOrAfter s now ds)
-keys_come before now_disk old mid now ds b answer until moment plan run sure kept s stands =
+pub keys_come : (before now_disk : Disk) (old mid : KeptState) (now : ℕ) (ds : Cmds) (b : Batch) (answer : Reply) (until : Option ℕ) (moment : ℕ) → IsPlanAt old mid now ds b answer until moment
+    → (mid.log.unsure ≡ false → (failed : List Cmds) → IsKept before mid failed → Touches log_file before now_disk (ComesToEither (state_of mid) b moment))
+    → old.log.unsure ≡ false → (failed : List Cmds) → IsKept before old failed → (s : State) → StandsFor old s → Touches log_file before now_disk (IsBeforeOrAfter s now ds)
+keys_come before now_disk old mid now ds b answer until moment plan run sure failed kept s stands =
     run_weaken log_file before now_disk (ComesToEither (state_of mid) b moment) (IsBeforeOrAfter s now ds)
-    (run (ap (λ (l : LogState). l.unsure) plan.same.log ∙ sure) (same_kept before old mid plan.same kept))
+    (run (ap (λ (l : LogState). l.unsure) plan.same.log ∙ sure) failed (same_kept before old mid failed plan.same kept))
     (λ c is. ⊎_elim (λ (e : ComesTo (state_of mid) c). inl (first c e)) (λ (e : ComesTo (with_batch (state_of mid) b moment) c). inr (second c e)) is)
   where
     same : state_of mid ≡ state_of old
@@ -193,6 +193,6 @@ keys_come before now_disk old mid now ds b answer until moment plan run sure kep
         (subst (λ (r : Recovered). ComesTo (with_batch r b moment) c) same is)))
 
 -- where no call was made, to those before it
-pub keys_stay : (disk : Disk) (old : StoreState) (now : ℕ) (ds : Cmds) → old.log.unsure ≡ false → IsKept disk old → (s : State) → StandsFor old s → Touches log_file disk disk (IsBeforeOrAfter s now ds)
-keys_stay disk old now ds sure kept s stands =
-    still_comes disk old (IsBeforeOrAfter s now ds) sure kept (λ c comes. inl (keys_before old s now stands c comes))
+pub keys_stay : (disk : Disk) (old : KeptState) (now : ℕ) (ds : Cmds) → old.log.unsure ≡ false → (failed : List Cmds) → IsKept disk old failed → (s : State) → StandsFor old s → Touches log_file disk disk (IsBeforeOrAfter s now ds)
+keys_stay disk old now ds sure failed kept s stands =
+    still_comes disk old (IsBeforeOrAfter s now ds) sure failed kept (λ c comes. inl (keys_before old s now stands c comes))

@@ -1,27 +1,28 @@
 -- A page of the map at a sequence, read row by row.
 use Rattle.std.proofs.Common.{◌≡◌, ℕ, zero, suc, ◌+◌, ◌<◌, ◌≤◌, List, [], ◌∷◌, ◌++◌, refl, sym, ap, subst, ◌∙◌, Bool, true, false, cond, length, take, drop, append_assoc, append-nil, Option, Some, None, arith, inl, inr}
 use Rattle.std.specs.Prelude.{nat_le, nat_eq, not, ◌&&◌, IsTrue, filter}
-use Rattle.std.proofs.lemmas.List.{length-append, drop_all, drop_more, take-append-le, take_all}
-use Rattle.std.proofs.lemmas.Option.{slice_get_within, get_or_from_slice_get}
+use Rattle.std.proofs.lemmas.List.{length-append, take-append-le, take_all}
 use Rattle.std.specs.Cmp.Lexicographic.{nat_list_cmp_total}
-use Rattle.batch_codec.specs.EntryLists.{under}
-use Rattle.std.specs.List.{Contains, slice_get, starts_with}
+use Rattle.batch_codec.specs.EntryListLaws.{under}
+use Rattle.std.specs.List.{Contains, list_all, prefix_len, slice_get, starts_with}
 use Rattle.std.specs.List.Sorted.{IsPartitionPoint}
 use Rattle.std.specs.declared.cmp.Ordering.{Ordering}
 use Rattle.std.specs.declared.cmp.Ordering.TheVariants.{Less, Equal, Greater}
 use Rattle.std.specs.Ordering.{nat_cmp, is_lt, ordering_then}
 use Rattle.std.proofs.lemmas.Bool.Decides.{nat_tests}
-use Rattle.kv_base.specs.Inversions.{both_first, both_second}
+use Rattle.kv_base.specs.InversionLaws.{both_first, both_second}
 use Rattle.kv_base.specs.Map.{Bytes, byte_cmp, exact, same, same_is}
 use Rattle.kv_base.specs.declared.row.Row.{Row}
 use Rattle.row_model.specs.Rows.{at}
 use Rattle.row_model.specs.RowOrder.{is_below, is_ordered, leads}
 use Rattle.row_model.specs.RowLaws.{there_behind, there_cases, there_first}
-use Rattle.row_model.specs.RowSearch.{leads_each}
+use Rattle.row_model.specs.RowSearchLaws.{leads_each}
 use Rattle.lives_model.specs.declared.view.LiveRow.{LiveRow}
 use Rattle.lives_model.specs.LiveRowLists.{pairs}
 use Rattle.lives_model.specs.Page.{is_in_page, page}
 use Rattle.log_store.specs.Walk.{greater, hides, value_shown, listed, walked}
+use Rattle.mem_table.specs.Search.{rows_from}
+use Rattle.mem_table.specs.SearchLaws.{start_of}
 use Rattle.log_store.proofs.Walking.{entries_walked, raw_order}
 
 -- ---- beginnings
@@ -173,41 +174,81 @@ length-pairs : (rows : List LiveRow) → length (pairs rows) ≡ length rows
 length-pairs [] = refl
 length-pairs (row ∷ rows) = let behind = length-pairs rows in omega (arith, behind)
 
--- With what is in the page from this place on, the rows that were found come to the page.
-pub record IsRead (rows : List Row) (s : ℕ) (from prefix : Bytes) (limit : ℕ) (found : List LiveRow) (front : Option Row) (place : ℕ) : Type 0 where
+-- With what is in the page of the rows still to come, the rows that were found come to the page.
+pub record IsRead (rows : List Row) (s : ℕ) (from prefix : Bytes) (limit : ℕ) (found : List LiveRow) (front : Option Row) (rest : List Row) : Type 0 where
   pub room : length found ≤ limit
-  pub comes_to : take limit (pairs found ++ filter (is_in_page from prefix) (walked s front (drop place rows))) ≡ page (at rows s) from prefix limit
+  pub ordered : IsTrue (is_ordered rest)
+  pub above : IsTrue (list_all (λ row. not (is_below (greater from prefix) row)) rest)
+  pub comes_to : take limit (pairs found ++ filter (is_in_page from prefix) (walked s front rest)) ≡ page (at rows s) from prefix limit
 
-pub page_begins : (rows : List Row) (s : ℕ) (from prefix start : Bytes) (limit : ℕ) (found : List LiveRow) (place : ℕ) → found ≡ [] → IsTrue (is_ordered rows) → start ≡ greater from prefix
-    → IsPartitionPoint (λ row. is_below start row ≡ true) (λ row. is_below start row ≡ false) rows place → IsRead rows s from prefix limit found None place
+ordered_behind : (rows : List Row) (place : ℕ) → is_ordered rows ≡ true → is_ordered (drop place rows) ≡ true
+unfolding is_ordered
+ordered_behind [] zero h = h
+ordered_behind [] (suc place) h = h
+ordered_behind (row ∷ rows) zero h = h
+ordered_behind (row ∷ rows) (suc place) h = ordered_behind rows place (both_second (leads row rows) (is_ordered rows) h)
+
+above_start : (start : Bytes) (rows : List Row) → list_all (λ row. not (is_below start row)) (rows_from start rows) ≡ true
+above_start start [] = refl
+above_start start (row ∷ rows) = by_test (above_start start rows) (not (is_below start row)) refl
+  where
+    by_test : list_all (λ row. not (is_below start row)) (rows_from start rows) ≡ true → (b : Bool) → not (is_below start row) ≡ b → list_all (λ row. not (is_below start row)) (cond b (row ∷ rows_from start rows) (rows_from start rows)) ≡ true
+    by_test rest true e = ap (λ b. b && list_all (λ row. not (is_below start row)) (rows_from start rows)) e ∙ rest
+    by_test rest false e = rest
+
+pub page_begins : (rows : List Row) (s : ℕ) (from prefix start : Bytes) (limit : ℕ) (found : List LiveRow) (rest : List Row) → found ≡ [] → IsTrue (is_ordered rows) → start ≡ greater from prefix
+    → rest ≡ rows_from start rows → IsRead rows s from prefix limit found None rest
 unfolding page
-page_begins rows s from prefix start limit found place none ordered is split =
+page_begins rows s from prefix start limit found rest none ordered is begins =
     let p = is_in_page from prefix in
+    let place = prefix_len (is_below start) rows in
+    let at_start = start_of start rows ordered in
+    let left : rest ≡ drop place rows = begins ∙ sym at_start.rest in
     record {
       room = let long = ap length none in omega arith;
-      comes_to = ap (λ (found : List LiveRow). take limit (pairs found ++ filter p (walked s None (drop place rows)))) none
-          ∙ ap (take limit) (sym (skipped p s start (λ raw value low. under_page from prefix raw value (ap (λ (k : Bytes). is_lt (byte_cmp raw k)) (sym is) ∙ low)) rows place None tt split))
+      ordered = ap is_ordered left ∙ ordered_behind rows place ordered;
+      above = (λ i. list_all (λ row. not (is_below (sym is i) row)) (begins i)) ∙ above_start start rows;
+      comes_to = (λ i. take limit (pairs (none i) ++ filter p (walked s None (left i))))
+          ∙ ap (take limit) (sym (skipped p s start (λ raw value low. under_page from prefix raw value (ap (λ (k : Bytes). is_lt (byte_cmp raw k)) (sym is) ∙ low)) rows place None tt at_start.split))
           ∙ ap (λ (es : List (Bytes × Bytes)). take limit (filter p es)) (sym (entries_walked rows s ordered));
     }
 
-rest_at : {X : Type 0} (xs : List X) (i : ℕ) (x : X) → Some x ≡ slice_get xs i → drop i xs ≡ x ∷ drop (i + 1) xs
-rest_at xs i x is = drop_more xs i x (slice_get_within xs i x (sym is)) ∙ ap (λ y. y ∷ drop (i + 1) xs) (get_or_from_slice_get xs i x x (sym is))
+-- the first of the rows still to come, and the others
+pub taken : {X : Type 0} (rest more : List X) (row : X) → Some row ≡ slice_get rest 0 → more ≡ drop 1 rest → rest ≡ row ∷ more
+taken [] more row is behind = absurd (cc)
+taken (x ∷ rest) more row is behind = let first : row ≡ x = cc in λ i. sym first i ∷ sym behind i
 
-pub page_goes_on : (rows : List Row) (s : ℕ) (from prefix : Bytes) (limit : ℕ) (found new : List LiveRow) (front : Option Row) (place : ℕ) (row : Row) → IsRead rows s from prefix limit found front place
-    → Some row ≡ slice_get rows place → length found < limit → starts_with nat_eq row.raw prefix ≡ true → is_lt (byte_cmp row.raw from) ≡ false
-    → pairs new ≡ pairs found ++ listed row.raw (value_shown s front row) [] → IsRead rows s from prefix limit new (Some row) (place + 1)
-unfolding walked
-page_goes_on rows s from prefix limit found new front place row was here room starts low is =
+pub none_to_come : {X : Type 0} (rest : List X) → None ≡ slice_get rest 0 → rest ≡ []
+none_to_come [] is = refl
+none_to_come (x ∷ rest) is = absurd (cc)
+
+-- a row still to come is not below where the page begins
+pub not_under_next : (from prefix : Bytes) (rest more : List Row) (row : Row) → rest ≡ row ∷ more → IsTrue (list_all (λ row. not (is_below (greater from prefix) row)) rest) → IsNotUnder from prefix row.raw
+not_under_next from prefix rest more row is above =
+    not_under from prefix row.raw (denied (is_below (greater from prefix) row)
+    (both_first (not (is_below (greater from prefix) row)) (list_all (λ r. not (is_below (greater from prefix) r)) more) (ap (list_all (λ r. not (is_below (greater from prefix) r))) (sym is) ∙ above)))
+  where
+    denied : (b : Bool) → not b ≡ true → b ≡ false
+    denied false e = refl
+    denied true e = absurd (cc)
+
+pub page_goes_on : (rows : List Row) (s : ℕ) (from prefix : Bytes) (limit : ℕ) (found new : List LiveRow) (front : Option Row) (rest more : List Row) (row : Row) → IsRead rows s from prefix limit found front rest
+    → rest ≡ row ∷ more → length found < limit → starts_with nat_eq row.raw prefix ≡ true → pairs new ≡ pairs found ++ listed row.raw (value_shown s front row) [] → IsRead rows s from prefix limit new (Some row) more
+unfolding walked is_ordered
+page_goes_on rows s from prefix limit found new front rest more row was here room starts is =
     let p = is_in_page from prefix in
-    let rest : List (Bytes × Bytes) = filter p (walked s (Some row) (drop (place + 1) rows)) in
+    let left : List (Bytes × Bytes) = filter p (walked s (Some row) more) in
     let o : Option Bytes = value_shown s front row in
+    let low = (not_under_next from prefix rest more row here was.above).from_is in
     record {
       room = omega (arith, length-pairs new, length-pairs found, ap length is, length-append (pairs found) (listed row.raw o []), few o);
-      comes_to = ap (λ (es : List (Bytes × Bytes)). take limit (es ++ rest)) is
-          ∙ ap (take limit) (append_assoc (pairs found) (listed row.raw o []) rest ∙ ap (λ es. pairs found ++ es) (listed-append o rest))
+      ordered = both_second (leads row more) (is_ordered more) (ap is_ordered (sym here) ∙ was.ordered);
+      above = both_second (not (is_below (greater from prefix) row)) (list_all (λ r. not (is_below (greater from prefix) r)) more) (ap (list_all (λ r. not (is_below (greater from prefix) r))) (sym here) ∙ was.above);
+      comes_to = ap (λ (es : List (Bytes × Bytes)). take limit (es ++ left)) is
+          ∙ ap (take limit) (append_assoc (pairs found) (listed row.raw o []) left ∙ ap (λ es. pairs found ++ es) (listed-append o left))
           ∙ ap (λ (es : List (Bytes × Bytes)). take limit (pairs found ++ es))
-          (sym (ap (λ (rs : List Row). filter p (walked s front rs)) (rest_at rows place row here)
-          ∙ filter-listed p row.raw o (walked s (Some row) (drop (place + 1) rows)) (λ value. ap (λ b. b && not (is_lt (byte_cmp row.raw from))) starts ∙ ap not low)))
+          (sym (ap (λ (rs : List Row). filter p (walked s front rs)) here
+          ∙ filter-listed p row.raw o (walked s (Some row) more) (λ value. ap (λ b. b && not (is_lt (byte_cmp row.raw from))) starts ∙ ap not low)))
           ∙ was.comes_to;
     }
   where
@@ -219,59 +260,44 @@ page_goes_on rows s from prefix limit found new front place row was here room st
     listed-append None rest = refl
     listed-append (Some value) rest = refl
 
--- a row from where the page begins on is not below
-pub not_under_at : (rows : List Row) (from prefix start : Bytes) (place i : ℕ) (row : Row) → start ≡ greater from prefix
-    → IsPartitionPoint (λ row. is_below start row ≡ true) (λ row. is_below start row ≡ false) rows place → place ≤ i → Some row ≡ slice_get rows i → IsNotUnder from prefix row.raw
-not_under_at rows from prefix start place i row is split low here =
-    let there : is_below start row ≡ false = subst (λ (r : Row). is_below start r ≡ false) (get_or_from_slice_get rows i row row (sym here)) (split.1 i row low (slice_get_within rows i row (sym here))) in
-    not_under from prefix row.raw (ap (λ (k : Bytes). is_lt (byte_cmp row.raw k)) (sym is) ∙ there)
-
 -- what was found is the page: it is full, or no row is left, or none that is left is in it
 with_rest : (limit : ℕ) (found : List LiveRow) (rest : List (Bytes × Bytes)) → length found ≤ limit → rest ≡ [] → take limit (pairs found ++ rest) ≡ pairs found
 with_rest limit found rest room none =
     ap (λ (es : List (Bytes × Bytes)). take limit (pairs found ++ es)) none ∙ ap (take limit) (append-nil (pairs found))
     ∙ take_all limit (pairs found) (omega (arith, length-pairs found))
 
-pub page_is_full : (rows : List Row) (s : ℕ) (from prefix : Bytes) (limit : ℕ) (found : List LiveRow) (front : Option Row) (place : ℕ) → IsRead rows s from prefix limit found front place
+pub page_is_full : (rows : List Row) (s : ℕ) (from prefix : Bytes) (limit : ℕ) (found : List LiveRow) (front : Option Row) (rest : List Row) → IsRead rows s from prefix limit found front rest
     → limit ≤ length found → pairs found ≡ page (at rows s) from prefix limit
-page_is_full rows s from prefix limit found front place was full =
+page_is_full rows s from prefix limit found front rest was full =
     let long = length-pairs found in
-    sym (take-append-le limit (pairs found) (filter (is_in_page from prefix) (walked s front (drop place rows))) (omega (arith, long))
+    sym (take-append-le limit (pairs found) (filter (is_in_page from prefix) (walked s front rest)) (omega (arith, long))
     ∙ take_all limit (pairs found) (omega (arith, long, was.room))) ∙ was.comes_to
 
-pub page_ends : (rows : List Row) (s : ℕ) (from prefix : Bytes) (limit : ℕ) (found : List LiveRow) (front : Option Row) (place : ℕ) → IsRead rows s from prefix limit found front place
-    → length rows ≤ place → pairs found ≡ page (at rows s) from prefix limit
+pub page_ends : (rows : List Row) (s : ℕ) (from prefix : Bytes) (limit : ℕ) (found : List LiveRow) (front : Option Row) (rest : List Row) → IsRead rows s from prefix limit found front rest
+    → rest ≡ [] → pairs found ≡ page (at rows s) from prefix limit
 unfolding walked
-page_ends rows s from prefix limit found front place was all =
-    sym (with_rest limit found (filter (is_in_page from prefix) (walked s front (drop place rows))) was.room
-    (ap (λ (rs : List Row). filter (is_in_page from prefix) (walked s front rs)) (drop_all place rows all))) ∙ was.comes_to
+page_ends rows s from prefix limit found front rest was none =
+    sym (with_rest limit found (filter (is_in_page from prefix) (walked s front rest)) was.room
+    (ap (λ (rs : List Row). filter (is_in_page from prefix) (walked s front rs)) none)) ∙ was.comes_to
 
-ordered_behind : (rows : List Row) (place : ℕ) → is_ordered rows ≡ true → is_ordered (drop place rows) ≡ true
+pub page_is_past : (rows : List Row) (s : ℕ) (from prefix : Bytes) (limit : ℕ) (found : List LiveRow) (front : Option Row) (rest more : List Row) (row : Row) → IsRead rows s from prefix limit found front rest
+    → rest ≡ row ∷ more → starts_with nat_eq row.raw prefix ≡ false → pairs found ≡ page (at rows s) from prefix limit
 unfolding is_ordered
-ordered_behind [] zero h = h
-ordered_behind [] (suc place) h = h
-ordered_behind (row ∷ rows) zero h = h
-ordered_behind (row ∷ rows) (suc place) h = ordered_behind rows place (both_second (leads row rows) (is_ordered rows) h)
-
-pub page_is_past : (rows : List Row) (s : ℕ) (from prefix : Bytes) (limit : ℕ) (found : List LiveRow) (front : Option Row) (place : ℕ) (row : Row) → IsRead rows s from prefix limit found front place → IsTrue (is_ordered rows)
-    → Some row ≡ slice_get rows place → starts_with nat_eq row.raw prefix ≡ false → (byte_cmp row.raw prefix ≡ Less → ⊥) → pairs found ≡ page (at rows s) from prefix limit
-unfolding is_ordered
-page_is_past rows s from prefix limit found front place row was ordered here past low =
-    sym (with_rest limit found (filter p (walked s front (drop place rows))) was.room
-    (ap (λ (rs : List Row). filter p (walked s front rs)) (rest_at rows place row here) ∙ nothing_more p s (row ∷ behind) front each)) ∙ was.comes_to
+page_is_past rows s from prefix limit found front rest more row was here past =
+    sym (with_rest limit found (filter p (walked s front rest)) was.room (ap (λ (rs : List Row). filter p (walked s front rs)) here ∙ nothing_more p s (row ∷ more) front each)) ∙ was.comes_to
   where
     p : Bytes × Bytes → Bool
     p = is_in_page from prefix
 
-    behind : List Row
-    behind = drop (place + 1) rows
+    low : byte_cmp row.raw prefix ≡ Less → ⊥
+    low = (not_under_next from prefix rest more row here was.above).prefix_is
 
-    lead : leads row behind ≡ true
-    lead = both_first (leads row behind) (is_ordered behind) (sym (ap is_ordered (rest_at rows place row here)) ∙ ordered_behind rows place ordered)
+    lead : leads row more ≡ true
+    lead = both_first (leads row more) (is_ordered more) (ap is_ordered (sym here) ∙ was.ordered)
 
-    each : (other : Row) → Contains (row ∷ behind) other → (value : Bytes) → p (other.raw, value) ≡ false
+    each : (other : Row) → Contains (row ∷ more) other → (value : Bytes) → p (other.raw, value) ≡ false
     each other there value =
-        ap (λ b. b && not (is_lt (byte_cmp other.raw from))) (elim (there_cases behind other row there) [
+        ap (λ b. b && not (is_lt (byte_cmp other.raw from))) (elim (there_cases more other row there) [
           | inl e ↦ subst (λ (r : Row). starts_with nat_eq r.raw prefix ≡ false) e past
-          | inr k ↦ past_prefix prefix row.raw other.raw past low (raw_order row other (leads_each row behind other lead k))
+          | inr k ↦ past_prefix prefix row.raw other.raw past low (raw_order row other (leads_each row more other lead k))
         ])

@@ -3,15 +3,16 @@ use Rattle.std.proofs.Common.{◌≡◌, ℕ, ◌+◌, ◌-◌, ◌≤◌, ◌^�
 use Rattle.std.specs.Prelude.{if◌then◌else◌, ◌&&◌, ◌==◌, nat_le, nat_lt}
 use Rattle.std.specs.Option.{option_map_or}
 use Rattle.std.proofs.lemmas.Bool.Decides.{nat_tests}
-use Rattle.kv_base.specs.Inversions.{both_first, both_second}
+use Rattle.kv_base.specs.InversionLaws.{both_first, both_second}
 use Rattle.kv_base.specs.Map.{Bytes, empty}
-use Rattle.kv_outside.specs.Disk.{Disk, Leaves}
+use Rattle.kv_outside.specs.Disk.{Disk, CrashLeaves}
 use Rattle.gated_log.specs.Gated.{records, EndsAt}
 use Rattle.gated_log.specs.States.{LogState, Rests}
 use Rattle.batch_codec.specs.Bodies.{read_body}
 use Rattle.batch_codec.specs.BodyLaws.{only_body_is_read}
 use Rattle.batch_codec.specs.declared.record.Record.{Record}
-use Rattle.wal_log.specs.Reads.{IsFound, Reads, found_leaves}
+use Rattle.wal_log.specs.Reads.{IsFound, ReadsFile}
+use Rattle.wal_log.specs.ReadLaws.{found_leaves}
 use Rattle.wal_log.specs.Segments.{stamp_of, is_next, record_behind, with_first, records_from, records_of, last_behind, segment_of}
 use Rattle.wal_log.specs.declared.segment.Found.{Found}
 use Rattle.wal_log.specs.declared.segment.Stamp.{Stamp}
@@ -20,7 +21,7 @@ use Rattle.kv_base.specs.declared.row.Row.{Row}
 use Rattle.row_model.specs.Replays.{do_rise, last_from, rise_above, rows_after}
 use Rattle.row_model.specs.Rows.{are_upto, at}
 use Rattle.log_store.specs.Recover.{Recovered, before_all, nothing, with_record, with_records, recovered_by}
-use Rattle.log_store.specs.Keeping.{log_file, state_of, Holds, StoreState, IsOpened}
+use Rattle.log_store.specs.Keeping.{log_file, state_of, HoldsBodies, KeptState, IsOpened}
 
 -- ---- record by record
 
@@ -148,27 +149,27 @@ unfolding segment_of
 bodies_are_read bytes rs read = read
 
 -- the stamp that was found is what the records come to
-found_last : (old middle : Disk) (found : Found) (rs : List Record) → Reads log_file old middle (IsFound before_all found) → rs ≡ found.records → found.last ≡ stamp_in (with_records nothing rs)
+found_last : (old middle : Disk) (found : Found) (rs : List Record) → ReadsFile log_file old middle (IsFound before_all found) → rs ≡ found.records → found.last ≡ stamp_in (with_records nothing rs)
 found_last old middle found rs read same = read.are.last ∙ ap (last_behind before_all) (sym same) ∙ with_records-stamp nothing rs
 
-pub found_sequence : (old middle : Disk) (found : Found) (rs : List Record) → Reads log_file old middle (IsFound before_all found) → rs ≡ found.records → found.last.seq ≡ (with_records nothing rs).sequence
+pub found_sequence : (old middle : Disk) (found : Found) (rs : List Record) → ReadsFile log_file old middle (IsFound before_all found) → rs ≡ found.records → found.last.seq ≡ (with_records nothing rs).sequence
 found_sequence old middle found rs read same = ap (λ (s : Stamp). s.seq) (found_last old middle found rs read same)
 
-pub found_floor : (old middle : Disk) (found : Found) (rs : List Record) → Reads log_file old middle (IsFound before_all found) → rs ≡ found.records → found.last.moment ≡ (with_records nothing rs).floor
+pub found_floor : (old middle : Disk) (found : Found) (rs : List Record) → ReadsFile log_file old middle (IsFound before_all found) → rs ≡ found.records → found.last.moment ≡ (with_records nothing rs).floor
 found_floor old middle found rs read same = ap (λ (s : Stamp). s.moment) (found_last old middle found rs read same)
 
 -- the records of the log rise
-pub found_rises : (old middle : Disk) (found : Found) (rs : List Record) → Reads log_file old middle (IsFound before_all found) → rs ≡ found.records → IsTrue (do_rise rs)
+pub found_rises : (old middle : Disk) (found : Found) (rs : List Record) → ReadsFile log_file old middle (IsFound before_all found) → rs ≡ found.records → IsTrue (do_rise rs)
 found_rises old middle found rs read same = behind rs (segment_in_order before_all read.bytes rs (read.are.records ∙ ap (λ (xs : List Record). Ok xs) (sym same))).rise
   where
     behind : (rs : List Record) → rise_above 0 rs ≡ true → IsTrue (do_rise rs)
     behind [] rise = refl
     behind (r ∷ rs) rise = both_second (nat_lt 0 r.seq) (rise_above r.seq rs) rise
 
-pub is_opened : (old middle new : Disk) (found : Found) (rs : List Record) (store : StoreState) → Reads log_file old middle (IsFound before_all found) → rs ≡ found.records
+pub is_opened : (old middle new : Disk) (found : Found) (rs : List Record) (store : KeptState) → ReadsFile log_file old middle (IsFound before_all found) → rs ≡ found.records
     → store.rows ≡ (with_records nothing rs).rows → store.floor ≡ found.last.moment → store.written ≡ found.last.moment → store.sequence ≡ found.last.seq
     → store.log.name ≡ log_file → store.log.unsure ≡ false
-    → ((bodies : List Bytes) → Leaves middle log_file (EndsAt found.end bodies) → Rests new store.log bodies)
+    → ((bodies : List Bytes) → CrashLeaves middle log_file (EndsAt found.end bodies) → Rests new store.log bodies)
     → IsOpened old new store
 is_opened old middle new found rs store read same rows floor written last name sure rests =
     let segment : segment_of before_all read.bytes ≡ Ok rs = read.are.records ∙ ap (λ (xs : List Record). Ok xs) (sym same) in
@@ -185,12 +186,12 @@ is_opened old middle new found rs store read same rows floor written last name s
         name = name;
         read = bodies_are_read read.bytes rs segment;
         made = sym is;
-        holds = subst (λ (b : Bool). Holds b new store.log (records read.bytes) (state_of store)) (sym sure) log;
+        holds = subst (λ (b : Bool). HoldsBodies b new store.log (records read.bytes) (state_of store) []) (sym sure) log;
       };
     }
 
 -- what was opened is within the limits of a store
-pub opened_within : (old middle : Disk) (found : Found) (rs : List Record) → Reads log_file old middle (IsFound before_all found) → rs ≡ found.records → (found.last.seq ≤ last_sequence) × (found.last.moment ≤ 2 ^ 61)
+pub opened_within : (old middle : Disk) (found : Found) (rs : List Record) → ReadsFile log_file old middle (IsFound before_all found) → rs ≡ found.records → (found.last.seq ≤ last_sequence) × (found.last.moment ≤ 2 ^ 61)
 opened_within old middle found rs read same =
     let ordered = segment_in_order before_all read.bytes rs (read.are.records ∙ ap (λ (xs : List Record). Ok xs) (sym same)) in
     let limits = ordered.within nothing (record { sequence = omega arith; floor = omega arith }) in

@@ -8,15 +8,16 @@ use Rattle.std.specs.Cmp.{tied_itself}
 use Rattle.std.specs.Cmp.Lexicographic.{nat_list_cmp_total}
 use Rattle.std.proofs.lemmas.Bool.Decides.{nat_tests}
 use Rattle.std.specs.FinMap.Entries.{find, below_all}
-use Rattle.kv_base.specs.Inversions.{both_first, both_second}
+use Rattle.kv_base.specs.InversionLaws.{both_first, both_second}
 use Rattle.kv_base.specs.Map.{Bytes, Map, byte_cmp, same, same_is, same_itself, empty, get, remove, get-empty, get-remove, same_map}
-use Rattle.batch_codec.specs.EntryLists.{over, level}
+use Rattle.batch_codec.specs.EntryListLaws.{over, level}
 use Rattle.kv_base.specs.declared.row.Row.{Row}
 use Rattle.row_model.specs.Rows.{at, newer, seen_at}
-use Rattle.row_model.specs.RowMaps.{get_at, value_seen}
+use Rattle.row_model.specs.RowMaps.{value_seen}
+use Rattle.row_model.specs.RowMapLaws.{get_at}
 use Rattle.row_model.specs.RowOrder.{row_cmp, leads, is_ordered}
 use Rattle.row_model.specs.RowLaws.{seen_is}
-use Rattle.row_model.specs.RowSearch.{leads_each}
+use Rattle.row_model.specs.RowSearchLaws.{leads_each}
 use Rattle.log_store.specs.Walk.{hides, value_shown, listed, walked}
 
 -- ---- the order of rows

@@ -1,6 +1,8 @@
 pub mod Recover
 pub mod Issuing
+pub mod IssuingLaws
 pub mod Planned
+pub mod PlannedLaws
 pub mod Keeping
 pub mod KeepLaws
 pub mod Playing

@@ -1,28 +1,20 @@
 -- What was planned: commands on the rows of a store, whatever these mean.
-use Rattle.std.specs.Prelude.{ℕ, ◌≤◌, Option}
+use Rattle.std.specs.Prelude.{ℕ, Option}
 use Rattle.batch_codec.specs.Batches.{Batch}
 use Rattle.redis_model.specs.declared.command.Cmds.{Cmds}
 use Rattle.redis_model.specs.declared.reply.Reply.{Reply}
-use Rattle.redis_model.specs.Desk.{last_sequence}
 use Rattle.redis_model.specs.Value.{RedisMap}
 use Rattle.lives_model.specs.Rows.{Rows}
 use Rattle.lives_model.specs.Means.{Means}
-use Rattle.lives_model.specs.Plans.{AreAsked, IsPlanFor, IsPlanned}
-use Rattle.log_store.specs.Issuing.{AreIssued, issued_are_ready}
+use Rattle.lives_model.specs.Plans.{AreAsked, IsPlanFor}
+use Rattle.log_store.specs.Issuing.{AreIssuedUpTo}
 
 -- the plan of commands on rows that are issued up to the sequence of the last batch, whatever they mean
 pub record IsPlannedNext (c : Rows) (t sequence : ℕ) (ds : Cmds) (b : Batch) (answer : Reply) (until : Option ℕ) : Type 0 where
-  pub plan : (m : RedisMap) → Means c t m → AreIssued c sequence → IsPlanFor c t sequence m ds b answer until
+  pub plan : (m : RedisMap) → Means c t m → AreIssuedUpTo c sequence → IsPlanFor c t sequence m ds b answer until
 
--- a planner's answer is one
-pub planned_next : (c : Rows) (t sequence : ℕ) (ds : Cmds) (b : Batch) (answer : Reply) (until : Option ℕ) → sequence ≤ last_sequence → AreAsked ds → IsPlanned c t sequence ds b answer until
-    → IsPlannedNext c t sequence ds b answer until
-planned_next c t sequence ds b answer until limit asked planned =
-    record { plan = λ m means issued. planned.plan m means (issued_are_ready c t sequence ds limit asked issued) }
-
--- the batch carries some commands out on these rows at this moment, behind a batch of this sequence
-pub record IsOfCommands (rows : Rows) (moment sequence : ℕ) (b : Batch) : Type 0 where
-  pub commands : Cmds
+-- the batch carries these commands out on these rows at this moment, behind a batch of this sequence
+pub record IsBatchOf (rows : Rows) (moment sequence : ℕ) (commands : Cmds) (b : Batch) : Type 0 where
   pub answer : Reply
   pub until : Option ℕ
   pub asked : AreAsked commands

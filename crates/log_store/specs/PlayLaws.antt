@@ -3,14 +3,15 @@ use Rattle.std.proofs.Common.{◌≡◌, ◌↔◌, ℕ, zero, suc, ◌-◌, ◌
 use Rattle.std.specs.Prelude.{◌==◌, min}
 use Rattle.std.proofs.lemmas.Bool.Decides.{nat_tests}
 use Rattle.kv_base.specs.Map.{Bytes, size, size-empty, empty, same_entries_map}
-use Rattle.batch_codec.specs.Batches.{Entry, Batch}
+use Rattle.batch_codec.specs.Batches.{BatchEntry, Batch}
 use Rattle.batch_codec.specs.Bodies.{body_of}
 use Rattle.batch_codec.specs.BodyLaws.{length-body}
 use Rattle.redis_model.specs.declared.command.Cmds.{Cmds}
 use Rattle.redis_model.specs.Desk.{longest_body}
 use Rattle.redis_model.specs.Machine.{State, moment_at, at_moment}
-use Rattle.lives_model.specs.WrittenKeys.{touched_in, quiet_plan}
-use Rattle.log_store.specs.Keeping.{StoreState}
+use Rattle.lives_model.specs.WrittenKeys.{touched_in}
+use Rattle.lives_model.specs.WrittenKeyLaws.{quiet_plan}
+use Rattle.log_store.specs.Keeping.{KeptState}
 use Rattle.log_store.specs.Playing.{batches, batches_of, planned_for, IsBodyOfPlan}
 
 -- ---- the bytes of a body
@@ -44,7 +45,7 @@ pub none_planned : (b : Batch) → planned_for b ≡ 0 → b ≡ empty
 unfolding size empty
 none_planned b none = same_entries_map b empty (by_entries b.entries refl)
   where
-    by_entries : (es : List Entry) → b.entries ≡ es → b.entries ≡ []
+    by_entries : (es : List BatchEntry) → b.entries ≡ es → b.entries ≡ []
     by_entries [] e = e
     by_entries (x ∷ xs) e =
         let long = ap length e in
@@ -62,7 +63,7 @@ pub some_batch : (n : ℕ) → 0 < n → batches n ≡ 1
 some_batch n some = ap (λ (b : Bool). cond {A = ℕ} b 0 1) (not_none n some)
 
 -- one batch is written where the commands touch a key, and none where they touch none
-pub batches_are : (store : StoreState) (now : ℕ) (s : State) (ds : Cmds) (planned : ℕ) → IsBodyOfPlan store now s ds planned → batches planned ≡ batches_of s now ds
+pub batches_are : (store : KeptState) (now : ℕ) (s : State) (ds : Cmds) (planned : ℕ) → IsBodyOfPlan store now s ds planned → batches planned ≡ batches_of s now ds
 batches_are store now s ds planned body =
     ap batches body.bytes
     ∙ by_keys (touched_in (at_moment s now).keys (moment_at s now) ds)

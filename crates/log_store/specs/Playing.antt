@@ -15,7 +15,7 @@ use Rattle.redis_model.specs.Desk.{last_sequence, longest_body}
 use Rattle.redis_model.specs.Machine.{State, step, moment_at, at_moment}
 use Rattle.lives_model.specs.Plans.{IsPlanFor}
 use Rattle.lives_model.specs.WrittenKeys.{touched_in}
-use Rattle.log_store.specs.Keeping.{StoreState, StandsFor, ComesToKeys}
+use Rattle.log_store.specs.Keeping.{KeptState, StandsFor, ComesToKeys}
 
 -- the entry of one command or of several, of the only caller
 abbrev pub entry : ℕ → Cmds → Step
@@ -23,12 +23,12 @@ entry now (One c) = Call now 0 c
 entry now (Many cs) = Exec now 0 cs
 
 -- From each state that the store stood for, the machine gives this reply, and the store stands for the state after it.
-pub record Plays (old new : StoreState) (now : ℕ) (commands : Cmds) (reply : Reply) : Type 0 where
+pub record Plays (old new : KeptState) (now : ℕ) (commands : Cmds) (reply : Reply) : Type 0 where
   pub answer : (s : State) → StandsFor old s → (step s (entry now commands)).0 ≡ Some reply
   pub stands : (s : State) → StandsFor old s → StandsFor new (step s (entry now commands)).1
 
 -- The rows, the floor, and the moment and the sequence of the last batch are as they were.
-pub record IsUnchanged (old new : StoreState) : Type 0 where
+pub record IsUnchanged (old new : KeptState) : Type 0 where
   pub rows : new.rows ≡ old.rows
   pub floor : new.floor ≡ old.floor
   pub written : new.written ≡ old.written
@@ -67,7 +67,7 @@ abbrev pub batches_of : State → ℕ → Cmds → ℕ
 batches_of s now ds = if length (touched_in (at_moment s now).keys (moment_at s now) ds) == 0 then 0 else 1
 
 -- so many bytes has the body of a batch that carries the commands out on the keys that the store stands for
-pub record IsBodyOfPlan (store : StoreState) (now : ℕ) (s : State) (ds : Cmds) (planned : ℕ) : Type 0 where
+pub record IsBodyOfPlan (store : KeptState) (now : ℕ) (s : State) (ds : Cmds) (planned : ℕ) : Type 0 where
   pub batch : Batch
   pub answer : Reply
   pub until : Option ℕ
@@ -75,7 +75,7 @@ pub record IsBodyOfPlan (store : StoreState) (now : ℕ) (s : State) (ds : Cmds)
   pub bytes : planned ≡ planned_for batch
 
 -- Nothing was to be written, or the body of what carries the commands out.
-abbrev pub IsSized : StoreState → ℕ → State → Cmds → ℕ → Type 0
+abbrev pub IsSized : KeptState → ℕ → State → Cmds → ℕ → Type 0
 IsSized store now s ds planned = (planned ≡ 0) ⊎ IsBodyOfPlan store now s ds planned
 
 -- ---- what a crash leaves

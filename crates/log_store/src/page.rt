@@ -26,10 +26,8 @@ pub fn first_rows(
 {
     let mut found = LiveRows::new(alloc);
     let mut front = None;
-    for at in table.position(greater(from, prefix))..table.len() {
-        let Some(row) = table.row(at) else {
-            return Ok(found);
-        };
+    let mut rows = table.rows_from(greater(from, prefix));
+    while let Some(row) = rows.next() {
         if found.len() == limit {
             return Ok(found);
         }

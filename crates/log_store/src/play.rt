@@ -4,13 +4,14 @@ ghost use Rattle.kv_outside.specs.Causes.{HasCause};
 ghost use Rattle.kv_outside.specs.Disk.{Touches};
 ghost use Rattle.gated_log.specs.Gated as gated;
 ghost use Rattle.gated_log.specs.States.{Rests, IsLeft};
-ghost use Rattle.redis_model.specs.Desk.{last_sequence, longest_body};
+ghost use Rattle.redis_model.specs.declared.command.Cmds.{Cmds};
+ghost use Rattle.redis_model.specs.Desk.{failed_with, last_sequence, longest_body};
 ghost use Rattle.redis_model.specs.Machine.{State};
 ghost use Rattle.batch_codec.specs.Batches.{after, are_rows};
 ghost use Rattle.row_model.specs.Rows.{are_upto, at};
 ghost use Rattle.lives_model.specs.Plans.{AreAsked};
 ghost use Rattle.log_store.specs.Keeping.{log_file, state_of, ComesToEither, IsKept, StandsFor};
-ghost use Rattle.log_store.specs.Planned.{IsOfCommands, IsPlannedNext};
+ghost use Rattle.log_store.specs.Planned.{IsBatchOf, IsPlannedNext};
 ghost use Rattle.log_store.specs.Playing.{batches, planned_for, IsBeforeOrAfter, IsBodyOfPlan, IsSized, IsUnchanged, IsWrite, PlayFails, Plays};
 
 use crate::store::LogStore;
@@ -57,7 +58,7 @@ fn append<F: Files>(log: &mut Segment<F>, files: &mut F, body: &RecordBody) -> R
     ensures left { OnErr result ((bodies : List Bytes) (tried : Bytes) → IsLeft log.old.unsure (F.disk files.old) log.old bodies tried
         → IsLeft log.new.unsure (F.disk files.new) log.new bodies tried ⊎ IsLeft log.new.unsure (F.disk files.new) log.new bodies body.now) }
     ensures any_moment { log.old.unsure ≡ false → (bodies : List Bytes) → Rests (F.disk files.old) log.old bodies
-        → Touches log.old.name (F.disk files.old) (F.disk files.new) (gated.IsBeforeOrAfter bodies body.now) }
+        → Touches log.old.name (F.disk files.old) (F.disk files.new) (gated.HasRecordsOrOneMore bodies body.now) }
     ensures name { log.new.name ≡ log.old.name }
     ensures cause { HasCause (F.faults files.old) (F.faults files.new) result }
 {
@@ -76,7 +77,7 @@ impl<F: Files> LogStore<F> {
     }
 
     /// The plan of commands on the rows. The view is one of memory, so want of memory is its only fault.
-    #[tactic(auto, using(lives_model::specs::Views::reading, crate::specs::Planned::planned_next))]
+    #[tactic(auto, using(lives_model::specs::ViewLaws::reading, crate::specs::PlannedLaws::planned_next))]
     fn plan<P: Planner>(
         &self,
         alloc: Global,
@@ -145,9 +146,9 @@ impl<F: Files> LogStore<F> {
         ensures unchanged { OnErr result (IsUnchanged self.old self.new) }
         ensures fault { IfErr result (λ e. PlayFails (F.faults files.old) (F.faults files.new) self.old.sequence self.new.planned e) }
         ensures later { F.faults files.old ≤ F.faults files.new }
-        ensures kept { IsOfCommands self.old.rows moment self.old.sequence batch.now
-            → IsKept (F.disk files.old) self.old → IsKept (F.disk files.new) self.new }
-        ensures any_moment { self.old.log.unsure ≡ false → IsKept (F.disk files.old) self.old
+        ensures kept { (commands : Cmds) (failed : List Cmds) → IsBatchOf self.old.rows moment self.old.sequence commands batch.now
+            → IsKept (F.disk files.old) self.old failed → IsKept (F.disk files.new) self.new (failed_with commands result failed) }
+        ensures any_moment { self.old.log.unsure ≡ false → (failed : List Cmds) → IsKept (F.disk files.old) self.old failed
             → Touches log_file (F.disk files.old) (F.disk files.new) (ComesToEither (state_of self.old) batch.now moment) }
     {
         self.planned = bytes_of(batch);
@@ -192,10 +193,11 @@ impl<F: Files> LogStore<F> {
         ensures unchanged { OnErr result (IsUnchanged self.old self.new) }
         ensures fault { IfErr result (λ e. PlayFails (F.faults files.old) (F.faults files.new) self.old.sequence self.new.planned e) }
         ensures later { F.faults files.old ≤ F.faults files.new }
-        ensures kept { IsKept (F.disk files.old) self.old → IsKept (F.disk files.new) self.new }
+        ensures kept { (failed : List Cmds) → IsKept (F.disk files.old) self.old failed
+            → IsKept (F.disk files.new) self.new (failed_with commands.now result failed) }
 
         // A crash at any moment leaves the keys before the call, or those after it.
-        ensures any_moment { self.old.log.unsure ≡ false → IsKept (F.disk files.old) self.old → (s : State) → StandsFor self.old s
+        ensures any_moment { self.old.log.unsure ≡ false → (failed : List Cmds) → IsKept (F.disk files.old) self.old failed → (s : State) → StandsFor self.old s
             → Touches log_file (F.disk files.old) (F.disk files.new) (IsBeforeOrAfter s now commands.now) }
     {
         self.planned = 0;

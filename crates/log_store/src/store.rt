@@ -1,6 +1,7 @@
-ghost use Rattle.std.specs.Prelude.{◌≡◌, ◌≤◌, OnOk, OnErr};
+ghost use Rattle.std.specs.Prelude.{◌≡◌, ◌≤◌, List, OnOk, OnErr};
 ghost use Rattle.kv_outside.specs.Causes.{HasCause};
-ghost use Rattle.kv_outside.specs.Disk.{Leaves};
+ghost use Rattle.kv_outside.specs.Disk.{CrashLeaves};
+ghost use Rattle.redis_model.specs.declared.command.Cmds.{Cmds};
 ghost use Rattle.redis_model.specs.Desk.{last_sequence};
 ghost use Rattle.redis_model.specs.Machine.{State};
 ghost use Rattle.log_store.specs.Keeping.{log_file, ComesToKeys, IsKept, Keeps, KeepsOrMore, StandsFor};
@@ -30,9 +31,9 @@ impl<F: Files> Model for LogStore<F> {
     ghost use Rattle.std.specs.Prelude.{◌≤◌, ◌^◌, IsTrue};
     ghost use Rattle.redis_model.specs.Desk.{last_sequence};
     ghost use Rattle.row_model.specs.Rows.{are_upto, at};
-    ghost use Rattle.log_store.specs.Keeping.{StoreState};
+    ghost use Rattle.log_store.specs.Keeping.{KeptState};
 
-    ghost Value = { StoreState };
+    ghost Value = { KeptState };
 
     ghost view = { λ s. record { rows = at s.table s.sequence; floor = s.floor; written = s.written; log = s.log; sequence = s.sequence; planned = s.planned } };
 
@@ -61,10 +62,10 @@ impl<F: Files> LogStore<F> {
     /// It fails where a call to the files failed. Then a crash may leave the rows as they are, or after the batch that was
     /// tried.
     pub fn close(&mut self, files: &mut F) -> Result<(), Failed>
-        ensures kept { OnOk result (IsKept (F.disk files.old) self.old → Keeps (F.disk files.new) self.old) }
-        ensures keys { OnOk result (IsKept (F.disk files.old) self.old → (s : State) → StandsFor self.old s
-            → Leaves (F.disk files.new) log_file (ComesToKeys s.floor s.keys)) }
-        ensures kept_or_more { OnErr result (IsKept (F.disk files.old) self.old → KeepsOrMore (F.disk files.new) self.old) }
+        ensures kept { OnOk result ((failed : List Cmds) → IsKept (F.disk files.old) self.old failed → Keeps (F.disk files.new) self.old) }
+        ensures keys { OnOk result ((failed : List Cmds) → IsKept (F.disk files.old) self.old failed → (s : State) → StandsFor self.old s
+            → CrashLeaves (F.disk files.new) log_file (ComesToKeys s.floor s.keys)) }
+        ensures kept_or_more { OnErr result ((failed : List Cmds) → IsKept (F.disk files.old) self.old failed → KeepsOrMore (F.disk files.new) self.old failed) }
         ensures unchanged { IsUnchanged self.old self.new }
         ensures cause { HasCause (F.faults files.old) (F.faults files.new) result }
     {

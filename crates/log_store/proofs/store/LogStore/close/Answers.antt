@@ -1,8 +1,9 @@
-use Rattle.std.proofs.Common.{◌≡◌, Bool, true, false, Result, Ok, Err, refl, sym, ap, subst, ◌∙◌}
+use Rattle.std.proofs.Common.{◌≡◌, Bool, true, false, List, Result, Ok, Err, refl, sym, ap, subst, ◌∙◌}
 use Rattle.std.specs.Prelude.{OnOk, OnErr}
 use Rattle.gated_log.specs.States.{LogState}
+use Rattle.redis_model.specs.declared.command.Cmds.{Cmds}
 use Rattle.row_model.specs.Rows.{at}
-use Rattle.log_store.specs.Keeping.{IsKept, Keeps, KeepsOrMore, StoreState}
+use Rattle.log_store.specs.Keeping.{IsKept, Keeps, KeepsOrMore, KeptState}
 use Rattle.log_store.proofs.Appending.{keeps_keys, keeps_mended, keeps_unsure}
 use Rattle.log_store.proofs.store.LogStore.close.Goals as goal
 
@@ -21,18 +22,18 @@ was_unsure false after idle is = sym (idle refl) ∙ is
 
 pub returns-clause-kept : goal.returns-clause-kept
 returns-clause-kept g c =
-    let old : StoreState = record { rows = at c.self.inside.table c.self.inside.sequence; floor = c.self.inside.floor; written = c.self.inside.written; log = c.self.inside.log; sequence = c.self.inside.sequence; planned = c.self.inside.planned } in
-    subst (λ (s : StoreState). OnOk c.mend.result (IsKept (g.F.Files.disk c.args.files.now) s → Keeps (g.F.Files.disk c.mend.new.files) s)) c.self.view_is
+    let old : KeptState = record { rows = at c.self.inside.table c.self.inside.sequence; floor = c.self.inside.floor; written = c.self.inside.written; log = c.self.inside.log; sequence = c.self.inside.sequence; planned = c.self.inside.planned } in
+    subst (λ (s : KeptState). OnOk c.mend.result ((failed : List Cmds) → IsKept (g.F.Files.disk c.args.files.now) s failed → Keeps (g.F.Files.disk c.mend.new.files) s)) c.self.view_is
     (on_ok c.mend.result (keeps_mended (g.F.Files.disk c.args.files.now) (g.F.Files.disk c.mend.new.files) old c.mend.new.self c.mend.ensures.name) c.mend.ensures.mended)
 
 pub returns-clause-keys : goal.returns-clause-keys
 returns-clause-keys g c =
-    on_ok c.mend.result (λ keeps kept s stands. keeps_keys (g.F.Files.disk c.mend.new.files) c.args.self.now s stands (keeps kept)) (returns-clause-kept g c)
+    on_ok c.mend.result (λ keeps failed kept s stands. keeps_keys (g.F.Files.disk c.mend.new.files) c.args.self.now s stands (keeps failed kept)) (returns-clause-kept g c)
 
 pub returns-clause-kept_or_more : goal.returns-clause-kept_or_more
 returns-clause-kept_or_more g c =
-    let old : StoreState = record { rows = at c.self.inside.table c.self.inside.sequence; floor = c.self.inside.floor; written = c.self.inside.written; log = c.self.inside.log; sequence = c.self.inside.sequence; planned = c.self.inside.planned } in
-    subst (λ (s : StoreState). OnErr c.mend.result (IsKept (g.F.Files.disk c.args.files.now) s → KeepsOrMore (g.F.Files.disk c.mend.new.files) s)) c.self.view_is
+    let old : KeptState = record { rows = at c.self.inside.table c.self.inside.sequence; floor = c.self.inside.floor; written = c.self.inside.written; log = c.self.inside.log; sequence = c.self.inside.sequence; planned = c.self.inside.planned } in
+    subst (λ (s : KeptState). OnErr c.mend.result ((failed : List Cmds) → IsKept (g.F.Files.disk c.args.files.now) s failed → KeepsOrMore (g.F.Files.disk c.mend.new.files) s failed)) c.self.view_is
     (on_err c.mend.result
     (λ unsure. keeps_unsure (g.F.Files.disk c.args.files.now) (g.F.Files.disk c.mend.new.files) old c.mend.new.self c.self.inside.log.unsure refl
     (was_unsure c.self.inside.log.unsure c.mend.new.self.unsure (λ sure. ap (λ (l : LogState). l.unsure) (c.mend.ensures.idle sure).1) unsure) c.mend.ensures.name)

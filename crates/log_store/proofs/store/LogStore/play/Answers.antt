@@ -1,7 +1,8 @@
 use Rattle.std.proofs.Common.{inr, Result, Ok, Err}
 use Rattle.std.specs.Prelude.{OnErr}
 use Rattle.row_model.specs.Rows.{at}
-use Rattle.log_store.specs.Keeping.{StoreState}
+use Rattle.log_store.specs.Keeping.{KeptState}
+use Rattle.log_store.proofs.Appending.{kept_failed, kept_more}
 use Rattle.log_store.proofs.Carrying.{IsPlanAt, IsSame, keys_come, keys_stay, of_commands, plays, body_is_planned, same_but_planned, same_kept}
 use Rattle.log_store.proofs.store.LogStore.play.Goals as goal
 
@@ -14,19 +15,20 @@ anyway (Err e) p = p
 
 pub returns-in_err-plan-clause-kept : goal.returns-in_err-plan-clause-kept
 returns-in_err-plan-clause-kept g c =
-    let mid : StoreState = record { rows = at c.self.inside.table c.self.inside.sequence; floor = c.self.inside.floor; written = c.self.inside.written; log = c.self.inside.log; sequence = c.self.inside.sequence; planned = 0 } in
+    let mid : KeptState = record { rows = at c.self.inside.table c.self.inside.sequence; floor = c.self.inside.floor; written = c.self.inside.written; log = c.self.inside.log; sequence = c.self.inside.sequence; planned = 0 } in
     let same : IsSame c.args.self.now mid = same_but_planned c.args.self.now mid.rows mid.floor mid.written mid.log mid.sequence c.self.inside.planned 0 c.self.view_is in
-    same_kept (g.F.Files.disk c.args.files.now) c.args.self.now mid same
+    λ failed kept. kept_failed _ c.from_residual.result c.from_residual.ensures.1 (g.F.Files.disk c.args.files.now) mid failed c.args.commands.now
+    (kept_more (g.F.Files.disk c.args.files.now) mid failed c.args.commands.now (same_kept (g.F.Files.disk c.args.files.now) c.args.self.now mid failed same kept))
 
 pub returns-in_err-plan-clause-any_moment : goal.returns-in_err-plan-clause-any_moment
 returns-in_err-plan-clause-any_moment g c =
-    λ sure kept s stands. keys_stay (g.F.Files.disk c.args.files.now) c.args.self.now c.args.now c.args.commands.now sure kept s stands
+    λ sure failed kept s stands. keys_stay (g.F.Files.disk c.args.files.now) c.args.self.now c.args.now c.args.commands.now sure failed kept s stands
 
 -- ---- where it was not carried out
 
 pub returns-in_err-commit-clause-sized : goal.returns-in_err-commit-clause-sized
 returns-in_err-commit-clause-sized g c =
-    let mid : StoreState = record { rows = at c.self.inside.table c.self.inside.sequence; floor = c.self.inside.floor; written = c.self.inside.written; log = c.self.inside.log; sequence = c.self.inside.sequence; planned = 0 } in
+    let mid : KeptState = record { rows = at c.self.inside.table c.self.inside.sequence; floor = c.self.inside.floor; written = c.self.inside.written; log = c.self.inside.log; sequence = c.self.inside.sequence; planned = 0 } in
     let same : IsSame c.args.self.now mid = same_but_planned c.args.self.now mid.rows mid.floor mid.written mid.log mid.sequence c.self.inside.planned 0 c.self.view_is in
     let plan : IsPlanAt c.args.self.now mid c.args.now c.args.commands.now c.in_ok-plan.plan.batch c.in_ok-plan.plan.reply c.in_ok-plan.plan.until c.moment_at-moment.result =
     record { same = same; at = c.moment_at-moment.ensures.moment; asked = c.requires.asked; planned = c.in_ok-plan.ensures } in
@@ -34,17 +36,18 @@ returns-in_err-commit-clause-sized g c =
 
 pub returns-in_err-commit-clause-kept : goal.returns-in_err-commit-clause-kept
 returns-in_err-commit-clause-kept g c =
-    let mid : StoreState = record { rows = at c.self.inside.table c.self.inside.sequence; floor = c.self.inside.floor; written = c.self.inside.written; log = c.self.inside.log; sequence = c.self.inside.sequence; planned = 0 } in
+    let mid : KeptState = record { rows = at c.self.inside.table c.self.inside.sequence; floor = c.self.inside.floor; written = c.self.inside.written; log = c.self.inside.log; sequence = c.self.inside.sequence; planned = 0 } in
     let same : IsSame c.args.self.now mid = same_but_planned c.args.self.now mid.rows mid.floor mid.written mid.log mid.sequence c.self.inside.planned 0 c.self.view_is in
     let plan : IsPlanAt c.args.self.now mid c.args.now c.args.commands.now c.in_ok-plan.plan.batch c.in_ok-plan.plan.reply c.in_ok-plan.plan.until c.moment_at-moment.result =
     record { same = same; at = c.moment_at-moment.ensures.moment; asked = c.requires.asked; planned = c.in_ok-plan.ensures } in
-    λ kept. c.commit.ensures.kept
+    λ failed kept. kept_failed _ c.from_residual-in_err-commit.result c.from_residual-in_err-commit.ensures.1 (g.F.Files.disk c.commit.new.files) c.commit.new.self failed c.args.commands.now
+    (c.in_err-commit.ensures.kept c.args.commands.now failed
     (of_commands c.args.self.now mid c.args.now c.args.commands.now c.in_ok-plan.plan.batch c.in_ok-plan.plan.reply c.in_ok-plan.plan.until c.moment_at-moment.result plan)
-    (same_kept (g.F.Files.disk c.args.files.now) c.args.self.now mid same kept)
+    (same_kept (g.F.Files.disk c.args.files.now) c.args.self.now mid failed same kept))
 
 pub returns-in_err-commit-clause-any_moment : goal.returns-in_err-commit-clause-any_moment
 returns-in_err-commit-clause-any_moment g c =
-    let mid : StoreState = record { rows = at c.self.inside.table c.self.inside.sequence; floor = c.self.inside.floor; written = c.self.inside.written; log = c.self.inside.log; sequence = c.self.inside.sequence; planned = 0 } in
+    let mid : KeptState = record { rows = at c.self.inside.table c.self.inside.sequence; floor = c.self.inside.floor; written = c.self.inside.written; log = c.self.inside.log; sequence = c.self.inside.sequence; planned = 0 } in
     let same : IsSame c.args.self.now mid = same_but_planned c.args.self.now mid.rows mid.floor mid.written mid.log mid.sequence c.self.inside.planned 0 c.self.view_is in
     let plan : IsPlanAt c.args.self.now mid c.args.now c.args.commands.now c.in_ok-plan.plan.batch c.in_ok-plan.plan.reply c.in_ok-plan.plan.until c.moment_at-moment.result =
     record { same = same; at = c.moment_at-moment.ensures.moment; asked = c.requires.asked; planned = c.in_ok-plan.ensures } in
@@ -54,7 +57,7 @@ returns-in_err-commit-clause-any_moment g c =
 
 pub returns-clause-ok : goal.returns-clause-ok
 returns-clause-ok g c =
-    let mid : StoreState = record { rows = at c.self.inside.table c.self.inside.sequence; floor = c.self.inside.floor; written = c.self.inside.written; log = c.self.inside.log; sequence = c.self.inside.sequence; planned = 0 } in
+    let mid : KeptState = record { rows = at c.self.inside.table c.self.inside.sequence; floor = c.self.inside.floor; written = c.self.inside.written; log = c.self.inside.log; sequence = c.self.inside.sequence; planned = 0 } in
     let same : IsSame c.args.self.now mid = same_but_planned c.args.self.now mid.rows mid.floor mid.written mid.log mid.sequence c.self.inside.planned 0 c.self.view_is in
     let plan : IsPlanAt c.args.self.now mid c.args.now c.args.commands.now c.in_ok-plan.plan.batch c.in_ok-plan.plan.reply c.in_ok-plan.plan.until c.moment_at-moment.result =
     record { same = same; at = c.moment_at-moment.ensures.moment; asked = c.requires.asked; planned = c.in_ok-plan.ensures } in
@@ -63,7 +66,7 @@ returns-clause-ok g c =
 
 pub returns-clause-body : goal.returns-clause-body
 returns-clause-body g c =
-    let mid : StoreState = record { rows = at c.self.inside.table c.self.inside.sequence; floor = c.self.inside.floor; written = c.self.inside.written; log = c.self.inside.log; sequence = c.self.inside.sequence; planned = 0 } in
+    let mid : KeptState = record { rows = at c.self.inside.table c.self.inside.sequence; floor = c.self.inside.floor; written = c.self.inside.written; log = c.self.inside.log; sequence = c.self.inside.sequence; planned = 0 } in
     let same : IsSame c.args.self.now mid = same_but_planned c.args.self.now mid.rows mid.floor mid.written mid.log mid.sequence c.self.inside.planned 0 c.self.view_is in
     let plan : IsPlanAt c.args.self.now mid c.args.now c.args.commands.now c.in_ok-plan.plan.batch c.in_ok-plan.plan.reply c.in_ok-plan.plan.until c.moment_at-moment.result =
     record { same = same; at = c.moment_at-moment.ensures.moment; asked = c.requires.asked; planned = c.in_ok-plan.ensures } in
@@ -71,17 +74,17 @@ returns-clause-body g c =
 
 pub returns-clause-kept : goal.returns-clause-kept
 returns-clause-kept g c =
-    let mid : StoreState = record { rows = at c.self.inside.table c.self.inside.sequence; floor = c.self.inside.floor; written = c.self.inside.written; log = c.self.inside.log; sequence = c.self.inside.sequence; planned = 0 } in
+    let mid : KeptState = record { rows = at c.self.inside.table c.self.inside.sequence; floor = c.self.inside.floor; written = c.self.inside.written; log = c.self.inside.log; sequence = c.self.inside.sequence; planned = 0 } in
     let same : IsSame c.args.self.now mid = same_but_planned c.args.self.now mid.rows mid.floor mid.written mid.log mid.sequence c.self.inside.planned 0 c.self.view_is in
     let plan : IsPlanAt c.args.self.now mid c.args.now c.args.commands.now c.in_ok-plan.plan.batch c.in_ok-plan.plan.reply c.in_ok-plan.plan.until c.moment_at-moment.result =
     record { same = same; at = c.moment_at-moment.ensures.moment; asked = c.requires.asked; planned = c.in_ok-plan.ensures } in
-    λ kept. c.commit.ensures.kept
+    λ failed kept. c.in_ok-commit.ensures.kept c.args.commands.now failed
     (of_commands c.args.self.now mid c.args.now c.args.commands.now c.in_ok-plan.plan.batch c.in_ok-plan.plan.reply c.in_ok-plan.plan.until c.moment_at-moment.result plan)
-    (same_kept (g.F.Files.disk c.args.files.now) c.args.self.now mid same kept)
+    (same_kept (g.F.Files.disk c.args.files.now) c.args.self.now mid failed same kept)
 
 pub returns-clause-any_moment : goal.returns-clause-any_moment
 returns-clause-any_moment g c =
-    let mid : StoreState = record { rows = at c.self.inside.table c.self.inside.sequence; floor = c.self.inside.floor; written = c.self.inside.written; log = c.self.inside.log; sequence = c.self.inside.sequence; planned = 0 } in
+    let mid : KeptState = record { rows = at c.self.inside.table c.self.inside.sequence; floor = c.self.inside.floor; written = c.self.inside.written; log = c.self.inside.log; sequence = c.self.inside.sequence; planned = 0 } in
     let same : IsSame c.args.self.now mid = same_but_planned c.args.self.now mid.rows mid.floor mid.written mid.log mid.sequence c.self.inside.planned 0 c.self.view_is in
     let plan : IsPlanAt c.args.self.now mid c.args.now c.args.commands.now c.in_ok-plan.plan.batch c.in_ok-plan.plan.reply c.in_ok-plan.plan.until c.moment_at-moment.result =
     record { same = same; at = c.moment_at-moment.ensures.moment; asked = c.requires.asked; planned = c.in_ok-plan.ensures } in

@@ -3,7 +3,7 @@ use Rattle.std.specs.Option.{option_map}
 use Rattle.kv_base.specs.declared.row.Row.{Row}
 use Rattle.row_model.specs.Rows.{at, seen_at}
 use Rattle.kv_base.specs.RowRefs.{row_seen}
-use Rattle.row_model.specs.RowMaps.{get_at}
+use Rattle.row_model.specs.RowMapLaws.{get_at}
 use Rattle.kv_base.specs.Map.{Bytes, get}
 use Rattle.log_store.proofs.view.TableViewRawView.get.Goals as goal
 

@@ -1,5 +1,5 @@
 use Rattle.kv_server.proofs.Running.{served_run}
-use Rattle.kv_server.proofs.top.run.Goals as goal
+use Rattle.kv_server.proofs.run.run.Goals as goal
 
 pub returns : goal.returns
 returns g c =

@@ -1,9 +1,10 @@
-ghost use Rattle.std.specs.Prelude.{◌≡◌, ◌≤◌, ◌<◌, ◌+◌, IfOk, IfErr, OnErr, OnOk, false};
+ghost use Rattle.std.specs.Prelude.{◌≡◌, ◌≤◌, ◌<◌, ◌+◌, List, IfOk, IfErr, OnErr, OnOk, false};
 ghost use Rattle.kv_outside.specs.Disk.{Touches};
-ghost use Rattle.redis_model.specs.Desk.{last_sequence, longest_body};
+ghost use Rattle.redis_model.specs.declared.command.Cmds.{Cmds};
+ghost use Rattle.redis_model.specs.Desk.{failed_with, last_sequence, longest_body};
 ghost use Rattle.redis_model.specs.Machine.{State};
 ghost use Rattle.lives_model.specs.Plans.{AreAsked};
-ghost use Rattle.log_store.specs.Keeping.{StoreState, IsKept, StandsFor, log_file};
+ghost use Rattle.log_store.specs.Keeping.{KeptState, IsKept, StandsFor, log_file};
 ghost use Rattle.log_store.specs.Playing.{batches, IsBeforeOrAfter, IsBodyOfPlan, IsSized, IsUnchanged, PlayFails, Plays};
 ghost use Rattle.kv_server.specs.Built.{IsBuilt};
 
@@ -14,9 +15,9 @@ use redis_model::{Cmds, DeskFault, Reply};
 use std::alloc::Global;
 
 /// What a desk asks of a store that files keep.
-pub trait Keeper<F: Files> {
+pub trait Store<F: Files> {
     /// What contracts see of the store.
-    ghost kept: { Self → StoreState };
+    ghost kept: { Self → KeptState };
 
     /// The sequence of the last batch.
     fn last_sequence(&self) -> u64
@@ -28,7 +29,7 @@ pub trait Keeper<F: Files> {
         ensures { result ≡ (kept self.now).planned };
 
     /// Carries out a command at a reading of the clock. After a fault the rows are as they were.
-    fn carry_out(
+    fn execute(
         &mut self,
         alloc: Global,
         files: &mut F,
@@ -46,14 +47,15 @@ pub trait Keeper<F: Files> {
         ensures unchanged { OnErr result (IsUnchanged (kept self.old) (kept self.new)) }
         ensures fault { IfErr result (λ e. PlayFails (F.faults files.old) (F.faults files.new) (kept self.old).sequence (kept self.new).planned e) }
         ensures later { F.faults files.old ≤ F.faults files.new }
-        ensures kept { IsKept (F.disk files.old) (kept self.old) → IsKept (F.disk files.new) (kept self.new) }
+        ensures kept { (failed : List Cmds) → IsKept (F.disk files.old) (kept self.old) failed
+            → IsKept (F.disk files.new) (kept self.new) (failed_with commands.now result failed) }
 
         // A crash at any moment leaves the keys before the call, or those after it.
-        ensures any_moment { (kept self.old).log.unsure ≡ false → IsKept (F.disk files.old) (kept self.old) → (s : State) → StandsFor (kept self.old) s
+        ensures any_moment { (kept self.old).log.unsure ≡ false → (failed : List Cmds) → IsKept (F.disk files.old) (kept self.old) failed → (s : State) → StandsFor (kept self.old) s
             → Touches log_file (F.disk files.old) (F.disk files.new) (IsBeforeOrAfter s now commands.now) };
 }
 
-impl<F: Files> Keeper<F> for LogStore<F> {
+impl<F: Files> Store<F> for LogStore<F> {
     ghost kept = { λ store. store };
 
     fn last_sequence(&self) -> u64 {
@@ -64,7 +66,7 @@ impl<F: Files> Keeper<F> for LogStore<F> {
         LogStore::planned(self)
     }
 
-    fn carry_out(
+    fn execute(
         &mut self,
         alloc: Global,
         files: &mut F,
