@@ -8,7 +8,7 @@ use Rattle.redis_model.specs.declared.command.Expiry.TheVariants as expiry
 use Rattle.redis_model.specs.Value.{Str, RedisMap, alive, deadline_at}
 use Rattle.redis_model.specs.Apply.{apply, carried_out}
 use Rattle.redis_model.specs.Machine.{apply_alive}
-use Rattle.key_locality.specs.Between.{deadlines}
+use Rattle.redis_model.specs.Deadlines.{deadlines}
 
 abbrev a : Bytes
 a = codes "a"

@@ -1,12 +1,12 @@
 -- What it means that two maps, or what two commands come to, are the same on some keys.
-use Rattle.std.specs.Prelude.{◌≡◌, ℕ, Bool, true, false, IsTrue, List, Ok, Err}
+use Rattle.std.specs.Prelude.{◌≡◌, ℕ, IsTrue, List, Ok, Err}
 use Rattle.kv_base.specs.Map.{Bytes, get}
 use Rattle.redis_model.specs.declared.reply.Reply.{Reply}
 use Rattle.redis_model.specs.declared.command.Command.{Command}
-use Rattle.redis_model.specs.declared.command.Command.TheVariants as cmd
 use Rattle.redis_model.specs.Value.{RedisMap}
 use Rattle.redis_model.specs.Outcome.{Outcome}
 use Rattle.redis_model.specs.Keys.{among}
+use Rattle.redis_model.specs.Deadlines.{reads_clock}
 
 -- two maps have the same value and the same deadline at each of these keys, or both lack the key
 abbrev pub AgreeOn : List Bytes → RedisMap → RedisMap → Type 0
@@ -15,12 +15,6 @@ AgreeOn ks m n = (k : Bytes) → IsTrue (among ks k) → get m k ≡ get n k
 -- each of these keys is among those
 abbrev pub Covers : List Bytes → List Bytes → Type 0
 Covers ks named = (k : Bytes) → IsTrue (among named k) → IsTrue (among ks k)
-
--- whether a command reads the moment at which it is carried out (Redis command reference, TTL and PTTL)
-abbrev pub reads_clock : Command → Bool
-reads_clock (cmd.Ttl k w) = true
-reads_clock (cmd.PTtl k w) = true
-reads_clock _ = false
 
 -- one moment serves a command as well as the other
 abbrev pub SameMoment : Command → ℕ → ℕ → Type 0

@@ -9,9 +9,10 @@ use Rattle.redis_model.specs.About.{keys_of}
 use Rattle.redis_model.specs.Apply.{apply}
 use Rattle.redis_model.specs.Machine.{apply_alive}
 use Rattle.redis_model.specs.Touched.{touched}
-use Rattle.redis_model.specs.Elsewhere.{apply_elsewhere}
+use Rattle.redis_model.specs.ElsewhereLaws.{apply_elsewhere}
+use Rattle.redis_model.specs.Deadlines.{deadlines}
 use Rattle.key_locality.specs.Agree.{AgreeOn}
-use Rattle.key_locality.specs.Between.{IsNotBetween, FindsTheSame, deadlines}
+use Rattle.key_locality.specs.Between.{IsNotBetween, FindsTheSame}
 use Rattle.key_locality.specs.Moments.{standing, none_between_itself, standing_later, get-alive, alive-twice, all_front, all_behind, none_between_at, agree_later_moment}
 use Rattle.key_locality.specs.Local.{apply_replies, apply_agrees, touched_local}
 

@@ -4,9 +4,9 @@ use Rattle.kv_base.specs.Map.{Bytes}
 use Rattle.redis_model.specs.declared.command.Command.{Command}
 use Rattle.redis_model.specs.declared.command.Cmds.{Cmds}
 use Rattle.redis_model.specs.declared.command.Cmds.TheVariants.{One, Many}
-use Rattle.redis_model.specs.Value.{RedisMap, alive, deadline_at}
+use Rattle.redis_model.specs.Value.{RedisMap, alive}
 use Rattle.redis_model.specs.About.{keys_of}
-use Rattle.redis_model.specs.Apply.{apply}
+use Rattle.redis_model.specs.Deadlines.{deadlines, keys_in}
 use Rattle.redis_model.specs.Machine.{apply_alive}
 use Rattle.key_locality.specs.Agree.{AgreeOn, Covers, SameMoment}
 
@@ -20,10 +20,6 @@ IsNotBetween t u deadline = IfSome deadline (λ d. t < d → u < d)
 abbrev pub NoneBetween : ℕ → ℕ → List (Option ℕ) → Type 0
 NoneBetween t u deadlines = All (IsNotBetween t u) deadlines
 
--- the deadlines of a command's keys, in the map that it finds and in the one that it leaves
-abbrev pub deadlines : RedisMap → ℕ → Command → List (Option ℕ)
-deadlines m t c = map (deadline_at m) (keys_of c) ++ map (deadline_at (apply m t c).1) (keys_of c)
-
 -- What a command finds in m at t, and in n at the same moment or a later one u, is the same at its keys, also once what has
 -- expired is gone: none of its deadlines has passed in between. And it does not read the clock, unless the moments are equal.
 pub record FindsTheSame (m n : RedisMap) (t u : ℕ) (c : Command) : Type 0 where
@@ -33,15 +29,6 @@ pub record FindsTheSame (m n : RedisMap) (t u : ℕ) (c : Command) : Type 0 wher
   pub agree : AgreeOn (keys_of c) (alive m u) (alive n u)
 
 -- ---- several commands
-
--- the keys that they name
-abbrev pub keys_of_each : List Command → List Bytes
-keys_of_each [] = []
-keys_of_each (c ∷ cs) = keys_of c ++ keys_of_each cs
-
-abbrev pub keys_in : Cmds → List Bytes
-keys_in (One c) = keys_of c
-keys_in (Many cs) = keys_of_each cs
 
 -- the deadlines of each command, in what has not expired of the map that those before it leave
 abbrev pub deadlines_of_each : RedisMap → ℕ → List Command → List (Option ℕ)

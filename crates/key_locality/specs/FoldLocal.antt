@@ -12,9 +12,10 @@ use Rattle.redis_model.specs.declared.command.Cmds.TheVariants.{One, Many}
 use Rattle.redis_model.specs.Value.{RedisMap, alive}
 use Rattle.redis_model.specs.Keys.{among}
 use Rattle.redis_model.specs.About.{keys_of}
+use Rattle.redis_model.specs.Deadlines.{deadlines, keys_of_each, keys_in}
 use Rattle.redis_model.specs.Machine.{apply_alive, apply_each, fold}
 use Rattle.key_locality.specs.Agree.{AgreeOn, Covers, SameMoment}
-use Rattle.key_locality.specs.Between.{IsNotBetween, FindsTheSame, FindTheSame, deadlines, keys_of_each, keys_in, deadlines_of_each}
+use Rattle.key_locality.specs.Between.{IsNotBetween, FindsTheSame, FindTheSame, deadlines_of_each}
 use Rattle.key_locality.specs.Moments.{standing, get-alive, alive-later, all_front, all_behind}
 use Rattle.key_locality.specs.Local.{named_or_other}
 use Rattle.key_locality.specs.AliveLocal.{apply_alive_elsewhere, apply_alive_replies, apply_alive_agrees}

@@ -14,7 +14,7 @@ use Rattle.redis_model.specs.About.{keys_of}
 use Rattle.redis_model.specs.Apply.{apply}
 use Rattle.redis_model.specs.Touched.{same_entry, if_there, written_again, once, is_touched, touched_by, touched}
 use Rattle.redis_model.specs.TouchedLaws.{among_once}
-use Rattle.redis_model.specs.Elsewhere.{apply_elsewhere}
+use Rattle.redis_model.specs.ElsewhereLaws.{apply_elsewhere}
 use Rattle.key_locality.specs.Agree.{AgreeOn, Covers, SameMoment, Alike}
 use Rattle.key_locality.specs.Alike.{among_first, among_later, agree_first}
 use Rattle.key_locality.specs.Strings.{same_has}

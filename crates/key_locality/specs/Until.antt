@@ -8,25 +8,10 @@ use Rattle.std.specs.List.{list_any}
 use Rattle.redis_model.specs.declared.command.Command.{Command}
 use Rattle.redis_model.specs.Value.{RedisMap, alive}
 use Rattle.redis_model.specs.About.{keys_of}
-use Rattle.key_locality.specs.Agree.{AgreeOn, reads_clock, SameMoment}
-use Rattle.key_locality.specs.Between.{IsNotBetween, NoneBetween, deadlines, FindsTheSame}
+use Rattle.redis_model.specs.Deadlines.{deadlines, reads_clock, sooner, least_above, is_past}
+use Rattle.key_locality.specs.Agree.{AgreeOn, SameMoment}
+use Rattle.key_locality.specs.Between.{IsNotBetween, NoneBetween, FindsTheSame}
 use Rattle.key_locality.specs.Moments.{none_between_itself}
-
--- a deadline, where it lies above t, or a later one that is sooner
-abbrev pub sooner : ℕ → Option ℕ → Option ℕ → Option ℕ
-sooner t None later = later
-sooner t (Some d) None = if nat_lt t d then Some d else None
-sooner t (Some d) (Some u) = if nat_lt t d && nat_lt d u then Some d else Some u
-
--- the least of these above t
-abbrev pub least_above : ℕ → List (Option ℕ) → Option ℕ
-least_above t [] = None
-least_above t (d ∷ ds) = sooner t d (least_above t ds)
-
--- a deadline that has come
-abbrev pub is_past : ℕ → Option ℕ → Bool
-is_past moment None = false
-is_past moment (Some deadline) = nat_le deadline moment
 
 -- ---- deadlines
 

@@ -7,10 +7,11 @@ ghost use Rattle.redis_model.specs.Keys.{among};
 ghost use Rattle.redis_model.specs.About.{keys_of};
 ghost use Rattle.redis_model.specs.Apply.{apply};
 ghost use Rattle.redis_model.specs.Machine.{apply_alive, fold};
+ghost use Rattle.redis_model.specs.Deadlines.{deadlines, keys_in, least_above};
 ghost use Rattle.redis_model.specs.Touched.{touched};
 ghost use Rattle.key_locality.specs.Agree.{AgreeOn, SameMoment};
-ghost use Rattle.key_locality.specs.Between.{FindTheSame, FindsTheSame, deadlines, keys_in};
-ghost use Rattle.key_locality.specs.Until.{lapsed, least_above};
+ghost use Rattle.key_locality.specs.Between.{FindTheSame, FindsTheSame};
+ghost use Rattle.key_locality.specs.Until.{lapsed};
 
 /// A command has one reply on any two maps that agree on its keys, at any two moments unless it reads the clock.
 pub fn replies_depend_on_own_keys()

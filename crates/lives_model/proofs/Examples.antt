@@ -9,7 +9,7 @@ use Rattle.kv_base.specs.declared.row.Row.{Row}
 use Rattle.redis_model.specs.Value.{ListOf, ZSet}
 use Rattle.lives_model.specs.LifeRows.{value_rows}
 use Rattle.lives_model.specs.Rows.{Elements, Scores, meta_key, row_key}
-use Rattle.lives_model.specs.RowKeys.{row_key_is, row_key_is_no_meta_key}
+use Rattle.lives_model.specs.RowKeyLaws.{row_key_is, row_key_is_no_meta_key}
 use Rattle.lives_model.specs.Plans.{version}
 use Rattle.lives_model.specs.Issued.{IsIssuedMeta, IsIssuedRow}
 

@@ -5,8 +5,8 @@ use Rattle.std.specs.Prelude.{◌||◌, Option, Some, None, is_some, option_map}
 use Rattle.kv_base.specs.Map.{Bytes, get, get-empty, empty, same_map}
 use Rattle.batch_codec.specs.Batches.{Batch, joined, over}
 use Rattle.batch_codec.specs.BatchLaws.{get-joined}
-use Rattle.lives_model.specs.OwnKeys.{empty_is, none_is}
-use Rattle.lives_model.specs.Joined.{joined_some}
+use Rattle.lives_model.specs.OwnKeyLaws.{empty_is, none_is}
+use Rattle.lives_model.specs.JoinedBatchLaws.{joined_some}
 
 -- what stands at a raw key of the joined batch
 abbrev newest : {X : Type 0} → Option X → Option X → Option X

@@ -14,7 +14,7 @@ use Rattle.kv_base.specs.Map.{Bytes, byte_cmp, same, same_is, same_itself, get}
 use Rattle.kv_base.specs.Number.{fits}
 use Rattle.kv_base.specs.Fields.{u64, read_u64}
 use Rattle.kv_base.specs.FieldLaws.{length-u64, u64_is_read, only_u64_is_read}
-use Rattle.kv_base.specs.Inversions.{same_some, number_is}
+use Rattle.kv_base.specs.InversionLaws.{same_some, number_is}
 use Rattle.kv_base.specs.RawKeys.{score_number}
 use Rattle.kv_base.specs.RawKeyLaws.{score_number_low}
 use Rattle.subkey_codec.specs.OrderLaws.{by_fronts, numbers_ascend, score_numbers_ascend}
@@ -23,7 +23,8 @@ use Rattle.redis_model.specs.Value.{Value, Str, Hash, ListOf, SetOf, ZSet}
 use Rattle.redis_model.specs.SortedSets.{Scored, rank_cmp, in_place, in_order}
 use Rattle.lives_model.specs.Rows.{Side, Elements, Scores}
 use Rattle.lives_model.specs.Means.{HasWholeScores, item_row, score_text, is_scored, member_row, row_of}
-use Rattle.lives_model.specs.PassingLaws.{first, second, both, less, is_less, find_at}
+use Rattle.lives_model.specs.PassingLaws.{find_at}
+use Rattle.kv_base.specs.TestLaws.{first, second, both, less, is_less}
 use Rattle.lives_model.specs.LifeRows.{RowAt, by_index, rank_key, value_rows, HasIndices}
 
 -- a number below another one
@@ -146,12 +147,12 @@ rank_keys a b h g =
     (numbers_ascend (score_number a.1) (score_number b.1) (score_number_low a.1 h) (score_number_low b.1 g) ∙ score_numbers_ascend a.1 b.1 h g)
 
 -- the scores of all fit 64 bits
-abbrev pub AllFit : List Scored → Type 0
-AllFit [] = Unit {0}
-AllFit (e ∷ es) = IsTrue (fits e.1) × AllFit es
+abbrev pub ScoresFit : List Scored → Type 0
+ScoresFit [] = Unit {0}
+ScoresFit (e ∷ es) = IsTrue (fits e.1) × ScoresFit es
 
 -- those of a sorted set do
-pub all_fit : (es : List Scored) → T (is_sorted byte_cmp es) → ((x : Bytes) → IfSome (find byte_cmp x es) IsWholeScore) → AllFit es
+pub all_fit : (es : List Scored) → T (is_sorted byte_cmp es) → ((x : Bytes) → IfSome (find byte_cmp x es) IsWholeScore) → ScoresFit es
 all_fit [] h whole = tt
 all_fit (e ∷ es) h whole = (
   whole_fits e.1 (subst (λ (b : Bool). IfSome (cond b (Some e.1) (find byte_cmp e.0 es)) IsWholeScore) (same_itself e.0) (whole e.0)),
@@ -184,15 +185,15 @@ below_order q [] h = tt
 below_order q (e ∷ es) h = below_place q e (in_order es) (first (is_lt (byte_cmp q e.0)) (below_all byte_cmp q es) h) (below_order q es (second (is_lt (byte_cmp q e.0)) (below_all byte_cmp q es) h))
 
 -- and their scores fit
-fit_place : (e : Scored) (es : List Scored) → IsTrue (fits e.1) → AllFit es → AllFit (in_place e es)
+fit_place : (e : Scored) (es : List Scored) → IsTrue (fits e.1) → ScoresFit es → ScoresFit (in_place e es)
 fit_place e [] h all = (h, tt)
 fit_place e (f ∷ fs) h all = by_test (is_lt (rank_cmp e f)) (fit_place e fs h all.1)
   where
-    by_test : (b : Bool) → AllFit (in_place e fs) → AllFit (cond b (e ∷ f ∷ fs) (f ∷ in_place e fs))
+    by_test : (b : Bool) → ScoresFit (in_place e fs) → ScoresFit (cond b (e ∷ f ∷ fs) (f ∷ in_place e fs))
     by_test true rest = (h, all)
     by_test false rest = (all.0, rest)
 
-pub fit_order : (es : List Scored) → AllFit es → AllFit (in_order es)
+pub fit_order : (es : List Scored) → ScoresFit es → ScoresFit (in_order es)
 fit_order [] all = tt
 fit_order (e ∷ es) all = fit_place e (in_order es) all.0 (fit_order es all.1)
 
@@ -203,7 +204,7 @@ no_tie Equal p e f = let no : Less ≡ Equal = sym e ∙ f in cc
 no_tie Greater p e f = let no : Greater ≡ Equal = f in cc
 
 -- a member in its place stands where its row is put
-place_is_put : (e : Scored) (es : List Scored) → IsTrue (fits e.1) → AllFit es → T (below_all byte_cmp e.0 es) → rank_rows (in_place e es) ≡ put byte_cmp (rank_key e) [] (rank_rows es)
+place_is_put : (e : Scored) (es : List Scored) → IsTrue (fits e.1) → ScoresFit es → T (below_all byte_cmp e.0 es) → rank_rows (in_place e es) ≡ put byte_cmp (rank_key e) [] (rank_rows es)
 place_is_put e [] h all below = refl
 place_is_put e (f ∷ fs) h all below =
     let rest = place_is_put e fs h all.1 (second (is_lt (byte_cmp e.0 f.0)) (below_all byte_cmp e.0 fs) below) in
@@ -217,7 +218,7 @@ place_is_put e (f ∷ fs) h all below =
     by_rank Greater is rest = ap (λ rows. (rank_key f, []) ∷ rows) rest
 
 -- so the members by rank are their rows, put one by one
-order_is_put : (es : List Scored) → AllFit es → T (is_sorted byte_cmp es) → rank_rows (in_order es) ≡ put_all es
+order_is_put : (es : List Scored) → ScoresFit es → T (is_sorted byte_cmp es) → rank_rows (in_order es) ≡ put_all es
 order_is_put [] all h = refl
 order_is_put (e ∷ es) all h =
     place_is_put e (in_order es) all.0 (fit_order es all.1) (below_order e.0 es (first (below_all byte_cmp e.0 es) (is_sorted byte_cmp es) h))
@@ -280,7 +281,7 @@ module _ (e : Scored) (es : List Scored) (q : Bytes) (fit : IsTrue (fits e.1)) (
   one_rank (Some (number, member)) read = by_member number member read (same member e.0) refl
 
 -- each member is found under its score
-find_rank : (es : List Scored) (q : Bytes) → AllFit es → T (is_sorted byte_cmp es) → find byte_cmp q (put_all es) ≡ scored_row es (read_u64 q)
+find_rank : (es : List Scored) (q : Bytes) → ScoresFit es → T (is_sorted byte_cmp es) → find byte_cmp q (put_all es) ≡ scored_row es (read_u64 q)
 find_rank [] q all h = sym (nothing_at (read_u64 q))
   where
     nothing_at : (o : Option (ℕ × Bytes)) → scored_row [] o ≡ None

@@ -11,34 +11,11 @@ use Rattle.std.specs.Cmp.{tied_itself}
 use Rattle.std.specs.Cmp.Lexicographic.{nat_list_cmp_total, slice_cmp}
 use Rattle.std.specs.FinMap.Entries.{find, is_sorted, below_all, is_sorted-where_key, find-where_key, same_entries}
 use Rattle.kv_base.specs.Map.{Bytes, byte_cmp, Map, exact, get}
-use Rattle.kv_base.specs.Inversions.{if_is, both_first, both_second}
+use Rattle.kv_base.specs.InversionLaws.{if_is, both_first, both_second}
 use Rattle.lives_model.specs.Passing.{passing, above, asked}
+use Rattle.kv_base.specs.TestLaws.{first, second, both, less, is_less}
 
--- the parts of a test that holds
-pub second : (a b : Bool) → T (a && b) → T b
-second true b p = p
-second false b p = absurd p
-
-pub first : (a b : Bool) → T (a && b) → T a
-first true b p = tt
-first false b p = p
-
--- and the whole of its parts
-pub both : (a b : Bool) → T a → T b → T (a && b)
-both true b p q = q
-both false b p q = p
-
--- what an order is, by its test
-pub less : (o : Ordering) → T (is_lt o) → o ≡ Less
-less Less p = refl
-less Equal p = absurd p
-less Greater p = absurd p
-
--- and back
-pub is_less : (o : Ordering) → o ≡ Less → T (is_lt o)
-is_less o e = subst (λ (r : Ordering). T (is_lt r)) (sym e) tt
-
--- the same of what is greater
+-- an order is what its test says
 greater : (o : Ordering) → is_gt o ≡ true → o ≡ Greater
 greater Less e = absurd (cc)
 greater Equal e = absurd (cc)

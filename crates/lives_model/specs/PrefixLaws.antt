@@ -9,7 +9,8 @@ use Rattle.std.specs.FinMap.Entries.{find, is_sorted, below_all, is_sorted-where
 use Rattle.kv_base.specs.Map.{Bytes, Map, byte_cmp, same, same_is, exact, get}
 use Rattle.subkey_codec.specs.OrderLaws.{behind_front}
 use Rattle.lives_model.specs.Passing.{passing, asked}
-use Rattle.lives_model.specs.PassingLaws.{first, second, both, passing_is}
+use Rattle.lives_model.specs.PassingLaws.{passing_is}
+use Rattle.kv_base.specs.TestLaws.{first, second, both}
 
 -- ---- beginnings
 

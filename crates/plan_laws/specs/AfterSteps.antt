@@ -2,7 +2,7 @@
 use Rattle.std.proofs.Common.{◌≡◌, ℕ, ◌+◌, ◌≤◌, refl, sym, ap, subst, ◌∙◌, Bool, true, false, cond, ◌&&◌, not, inl, inr, arith}
 use Rattle.std.specs.Prelude.{◌==◌, Option, Some, None, IsTrue, option_and_then}
 use Rattle.kv_base.specs.Map.{Bytes, kept, get}
-use Rattle.kv_base.specs.Inversions.{same_some, and_then_is, kept_is, both_second, number_is}
+use Rattle.kv_base.specs.InversionLaws.{same_some, and_then_is, kept_is, both_second, number_is}
 use Rattle.kv_base.specs.RawKeys.{is_key}
 use Rattle.kv_base.specs.MetaValues.{MetaValue, meta_text, read_meta}
 use Rattle.kv_base.specs.MetaValueLaws.{meta_is_read}
@@ -16,9 +16,9 @@ use Rattle.redis_model.specs.TouchedLaws.{touched_is_named}
 use Rattle.redis_model.specs.Machine.{apply_alive}
 use Rattle.lives_model.specs.Rows.{Rows, meta_key, row_key}
 use Rattle.lives_model.specs.Clean.{is_live, live_at, version_of}
-use Rattle.lives_model.specs.Means.{Stands, LifeAt, meta_for, has_life}
-use Rattle.lives_model.specs.Plans.{is_store, holds_type, new_life, life_in, life_after, HasNoRows, Deletes, Writes, Leaves, KeyPlan, IsFresh}
-use Rattle.lives_model.specs.Steps.{version_fits, still, placed, live_still, live_gone}
+use Rattle.lives_model.specs.Means.{MeansAt, LifeAt, meta_for, has_life}
+use Rattle.lives_model.specs.Plans.{is_store, holds_type, new_life, life_in, life_after, HasNoRows, Deletes, WritesEntry, LeavesEntry, KeyPlan, IsFresh}
+use Rattle.lives_model.specs.StepLaws.{version_fits, still, placed, live_still, live_gone}
 use Rattle.plan_laws.specs.AlikeRows.{life_of, RowsAlike, LivesAlike}
 use Rattle.plan_laws.specs.StillPlan.{collection, version_in, Meets, life_rows}
 use Rattle.plan_laws.specs.SomeRow.{life_is_older}
@@ -62,7 +62,7 @@ version_back (SetOf v) life x version e = (refl, same_some life.version version 
 version_back (ZSet v) life x version e = (refl, same_some life.version version e)
 
 -- lives alike afterwards
-lives_written : (c d : Rows) (b : Batch) (u : ℕ) (k : Bytes) (e : Entry) (life : LifeAt) → (has_life e.value ≡ true → RowsAlike c d k life.version) → Writes c b k e life → LivesAlike (after c b) (after d b) u k
+lives_written : (c d : Rows) (b : Batch) (u : ℕ) (k : Bytes) (e : Entry) (life : LifeAt) → (has_life e.value ≡ true → RowsAlike c d k life.version) → WritesEntry c b k e life → LivesAlike (after c b) (after d b) u k
 lives_written c d b u k e life alike w = record {
   meta = live_written d b u k (meta_text meta) w.meta ∙ sym here;
   rows = λ version is.
@@ -81,7 +81,7 @@ lives_written c d b u k e life alike w = record {
 -- after a step that is one on both, a key lives alike
 module _ (c d : Rows) (t later fresh : ℕ) (m n : RedisMap) (a : Command) (b : Batch) (meets : Meets c d t later fresh m n a) (k : Bytes) where
   -- one that it touches
-  leaves_alive : (o : Option Entry) → IsTrue (among (keys_of a) k) → Leaves c t fresh m a b k o → LivesAlike (after c b) (after d b) later k
+  leaves_alive : (o : Option Entry) → IsTrue (among (keys_of a) k) → LeavesEntry c t fresh m a b k o → LivesAlike (after c b) (after d b) later k
   leaves_alive None named l = lives_gone c d b k later l
   leaves_alive (Some e) named l =
       lives_written c d b later k e (life_after c t fresh m a k e.value)
@@ -94,9 +94,9 @@ module _ (c d : Rows) (t later fresh : ℕ) (m n : RedisMap) (a : Command) (b : 
 
 -- ---- a free version, and the next one
 
-module _ (c : Rows) (t fresh : ℕ) (m : RedisMap) (a : Command) (b : Batch) (k : Bytes) (none : IsFresh c fresh k) (stands : Stands c t k (get m k)) where
+module _ (c : Rows) (t fresh : ℕ) (m : RedisMap) (a : Command) (b : Batch) (k : Bytes) (none : IsFresh c fresh k) (stands : MeansAt c t k (get m k)) where
   -- a life that goes on is older than the free version
-  low_by : (v : Value) (o : Option Entry) → Stands c t k o → holds_type o v ≡ true → (life_in (live_at c t k) (new_life fresh)).version ≤ fresh
+  low_by : (v : Value) (o : Option Entry) → MeansAt c t k o → holds_type o v ≡ true → (life_in (live_at c t k) (new_life fresh)).version ≤ fresh
   low_by v None s e = absurd (cc)
   low_by v (Some x) s e =
       let h = collection x.value v e in
@@ -121,7 +121,7 @@ module _ (c : Rows) (t fresh : ℕ) (m : RedisMap) (a : Command) (b : Batch) (k 
   not_there false s life version o is low high = refl
 
   -- nor does a touched key get one
-  leaves_fresh : (o : Option Entry) → Leaves c t fresh m a b k o → IsFresh (after c b) (fresh + 1) k
+  leaves_fresh : (o : Option Entry) → LeavesEntry c t fresh m a b k o → IsFresh (after c b) (fresh + 1) k
   leaves_fresh None l side version subkey high low = still c b (row_key side k version subkey) (l.rows side version subkey low) ∙ none side version subkey (omega arith) low
   leaves_fresh (Some e) l side version subkey high low =
       still c b (row_key side k version subkey)

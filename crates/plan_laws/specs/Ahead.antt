@@ -39,26 +39,26 @@ least_later t later (d ∷ ds) le none =
 -- ---- what has not lapsed
 
 -- the moment is the same, or none of the deadlines has come and nothing was answered by the clock
-abbrev pub Holds : ℕ → ℕ → Option ℕ → Bool → Type 0
-Holds t later until reads = (t ≡ later) ⊎ ((is_past later until ≡ false) × (reads ≡ false))
+abbrev pub HoldsUntil : ℕ → ℕ → Option ℕ → Bool → Type 0
+HoldsUntil t later until reads = (t ≡ later) ⊎ ((is_past later until ≡ false) × (reads ≡ false))
 
 -- by the order of the moments
-holds_by : (t later : ℕ) (until : Option ℕ) (reads b : Bool) → t ≤ later → nat_lt t later ≡ b → (b && (is_past later until || reads)) ≡ false → Holds t later until reads
+holds_by : (t later : ℕ) (until : Option ℕ) (reads b : Bool) → t ≤ later → nat_lt t later ≡ b → (b && (is_past later until || reads)) ≡ false → HoldsUntil t later until reads
 holds_by t later until reads true le is e = inr (or_parts (is_past later until) reads e)
 holds_by t later until reads false le is e = inl (grind (arith, nat_tests))
 
 -- a plan that has not lapsed holds
-pub not_lapsed : (t later : ℕ) (until : Option ℕ) (ds : Cmds) → t ≤ later → IsFalse (lapses t later until ds) → Holds t later until (any_reads_clock ds)
+pub not_lapsed : (t later : ℕ) (until : Option ℕ) (ds : Cmds) → t ≤ later → IsFalse (lapses t later until ds) → HoldsUntil t later until (any_reads_clock ds)
 not_lapsed t later until ds le e = holds_by t later until (any_reads_clock ds) (nat_lt t later) le refl e
 
 -- so no deadline that was looked ahead to lies between
-pub holds_ahead : (t later : ℕ) (until : Option ℕ) (reads : Bool) (deadlines : List (Option ℕ)) → until ≡ least_above t deadlines → Holds t later until reads → NoneBetween t later deadlines
+pub holds_ahead : (t later : ℕ) (until : Option ℕ) (reads : Bool) (deadlines : List (Option ℕ)) → until ≡ least_above t deadlines → HoldsUntil t later until reads → NoneBetween t later deadlines
 holds_ahead t later until reads deadlines is (inl same) = subst (λ (u : ℕ). NoneBetween t u deadlines) same (none_between_itself t deadlines)
 holds_ahead t later until reads deadlines is (inr h) = none_between_until t later deadlines (ap (is_past later) (sym is) ∙ h.0)
 
 -- ---- the clock
 
 -- where a command did not read the clock, or the moment is the same, one moment serves as well as the other
-pub holds_clock : (t later : ℕ) (until : Option ℕ) (d : Command) → Holds t later until (reads_clock d) → SameMoment d t later
+pub holds_clock : (t later : ℕ) (until : Option ℕ) (d : Command) → HoldsUntil t later until (reads_clock d) → SameMoment d t later
 holds_clock t later until d (inl same) reads = same
 holds_clock t later until d (inr h) reads = cc

@@ -2,15 +2,15 @@
 use Rattle.std.proofs.Common.{◌≡◌, ℕ, ◌≤◌, refl, sym, ap, subst, ◌∙◌, true, false, ◌-◌, ◌^◌, ◌&&◌}
 use Rattle.std.specs.Prelude.{nat_lt, Option, Some, None, IsTrue, option_and_then}
 use Rattle.kv_base.specs.Map.{Bytes, get}
-use Rattle.kv_base.specs.Inversions.{same_some, kept_is, both_first, both_second}
+use Rattle.kv_base.specs.InversionLaws.{same_some, kept_is, both_first, both_second}
 use Rattle.kv_base.specs.RawKeys.{is_key, is_version}
 use Rattle.kv_base.specs.MetaValues.{MetaValue, StringValue, LifeValue, ListValue, is_deadline, is_size, is_life, is_meta_within}
 use Rattle.redis_model.specs.Value.{Entry}
 use Rattle.lives_model.specs.Rows.{Rows, IsOnGrammar, Side, row_key}
 use Rattle.lives_model.specs.Clean.{is_live, live_at, version_of}
-use Rattle.lives_model.specs.Means.{Stands, meta_for}
+use Rattle.lives_model.specs.Means.{MeansAt, meta_for}
 use Rattle.lives_model.specs.Lapses.{CountsAlike}
-use Rattle.lives_model.specs.Steps.{live_fits, version_for}
+use Rattle.lives_model.specs.StepLaws.{live_fits, version_for}
 use Rattle.lives_model.specs.CleanLaws.{row_clean, live_alike, live_later}
 
 -- the version of the life that metadata names
@@ -55,7 +55,7 @@ counts_lives c d t k on on_too key alike = record { meta = same; rows = λ versi
 -- ---- what stands on one stands on the other
 
 -- a key stands for the same entry on both
-pub stands_too : (c d : Rows) (t : ℕ) (k : Bytes) (o : Option Entry) → LivesAlike c d t k → Stands c t k o → Stands d t k o
+pub stands_too : (c d : Rows) (t : ℕ) (k : Bytes) (o : Option Entry) → LivesAlike c d t k → MeansAt c t k o → MeansAt d t k o
 stands_too c d t k None alike s = alike.meta ∙ s
 stands_too c d t k (Some e) alike s = record {
   life = s.life;
@@ -69,12 +69,12 @@ stands_too c d t k (Some e) alike s = record {
 }
 
 -- a key that is too long holds nothing
-pub long_holds_none : (c : Rows) (t : ℕ) (k : Bytes) (o : Option Entry) → is_key k ≡ false → Stands c t k o → o ≡ None
+pub long_holds_none : (c : Rows) (t : ℕ) (k : Bytes) (o : Option Entry) → is_key k ≡ false → MeansAt c t k o → o ≡ None
 long_holds_none c t k None long s = refl
 long_holds_none c t k (Some e) long s = let key : is_key k ≡ true = s.key in cc
 
 -- metadata that stands for an entry at two moments is the same at both
-pub same_live : (c : Rows) (t later : ℕ) (k : Bytes) (o : Option Entry) → t ≤ later → Stands c t k o → Stands c later k o → live_at c later k ≡ live_at c t k
+pub same_live : (c : Rows) (t later : ℕ) (k : Bytes) (o : Option Entry) → t ≤ later → MeansAt c t k o → MeansAt c later k o → live_at c later k ≡ live_at c t k
 same_live c t later k None le s r = r ∙ sym s
 same_live c t later k (Some e) le s r =
     let meta = meta_for e.value r.life r.expire in

@@ -8,7 +8,7 @@ use Rattle.kv_base.specs.Map.{Bytes, same, same_itself, kept, get, size}
 use Rattle.kv_base.specs.Number.{fits}
 use Rattle.kv_base.specs.Fields.{u64, read_u64}
 use Rattle.kv_base.specs.FieldLaws.{length-u64, only_u64_is_read}
-use Rattle.kv_base.specs.Inversions.{same_some, map_is}
+use Rattle.kv_base.specs.InversionLaws.{same_some, map_is}
 use Rattle.kv_base.specs.RawKeys.{MetaKey, ElementKey, ScoreKey, is_key, is_version, score_number, score_from, read_raw}
 use Rattle.kv_base.specs.RawKeyLaws.{score_is_read, score_is_written}
 use Rattle.kv_base.specs.MetaValues.{is_deadline, is_size, is_meta_within, is_payload, read_meta}
@@ -19,8 +19,8 @@ use Rattle.redis_model.specs.Limits.{IsName, IsShort, IsWholeScore}
 use Rattle.redis_model.specs.Valid.{IsValue}
 use Rattle.lives_model.specs.Rows.{Side, Elements, Scores, meta_key, row_key}
 use Rattle.lives_model.specs.Clean.{deadline_from, is_live, live_at}
-use Rattle.lives_model.specs.Means.{HasWholeScores, Means, Stands, meta_for, row_of, item_row, member_row}
-use Rattle.lives_model.specs.Steps.{expire_for, kept_some}
+use Rattle.lives_model.specs.Means.{HasWholeScores, Means, MeansAt, meta_for, row_of, item_row, member_row}
+use Rattle.lives_model.specs.StepLaws.{expire_for, kept_some}
 use Rattle.plan_laws.specs.Tabulated.{get-tabulated}
 use Rattle.plan_laws.specs.RowsFor.{HasShortParts, IsKeptAt, CanBeKept, first_life, expire_from, meta_row, life_row, row_for, raws_of, rows_for}
 use Rattle.plan_laws.specs.RawKeysRead.{meta_key_by, element_key_by, score_at, score_key_by}
@@ -241,7 +241,7 @@ unfolding live_at
 live_none m t k none = ap (λ o. kept (is_live t) (option_and_then read_meta o)) (no_meta m k none)
 
 -- so its rows stand for its entry
-key_stands : (m : RedisMap) (t : ℕ) (k : Bytes) (o : Option Entry) → get m k ≡ o → IfSome o (IsKeptAt t k) → Stands (rows_for m) t k o
+key_stands : (m : RedisMap) (t : ℕ) (k : Bytes) (o : Option Entry) → get m k ≡ o → IfSome o (IsKeptAt t k) → MeansAt (rows_for m) t k o
 key_stands m t k None none fit = live_none m t k none
 key_stands m t k (Some e) is fit = record {
   life = first_life;

@@ -18,12 +18,13 @@ use Rattle.redis_model.specs.About.{keys_of}
 use Rattle.redis_model.specs.Machine.{apply_alive}
 use Rattle.lives_model.specs.Rows.{Rows, IsOnGrammar}
 use Rattle.lives_model.specs.Means.{Means}
-use Rattle.lives_model.specs.Plans.{IsPlanOf, IsPlanFor, IsReady, IsFresh, Part, AreParts, IsStep, version, least, least_until, deadlines, keys_of_each, keys_in}
+use Rattle.lives_model.specs.Plans.{IsPlanOf, IsPlanFor, IsReady, IsFresh, PlannedPart, AreParts, IsStep, version, least, least_until, deadlines, keys_of_each, keys_in}
 use Rattle.lives_model.specs.Lapses.{reads_clock, is_past, lapses, IsStillReady, HoldsLater}
-use Rattle.lives_model.specs.Steps.{step_means}
-use Rattle.lives_model.specs.Joined.{plan_means}
-use Rattle.lives_model.specs.WrittenKeys.{touched_each, touched_in, in_front, behind}
-use Rattle.plan_laws.specs.Ahead.{Holds, not_lapsed, holds_ahead, holds_clock}
+use Rattle.lives_model.specs.StepLaws.{step_means}
+use Rattle.lives_model.specs.JoinedBatchLaws.{plan_means}
+use Rattle.lives_model.specs.WrittenKeys.{touched_each, touched_in}
+use Rattle.lives_model.specs.WrittenKeyLaws.{in_front, behind}
+use Rattle.plan_laws.specs.Ahead.{HoldsUntil, not_lapsed, holds_ahead, holds_clock}
 use Rattle.plan_laws.specs.AlikeRows.{LivesAlike, counts_lives}
 use Rattle.plan_laws.specs.StillPlan.{Meets, touched_same, step_too, plan_too}
 use Rattle.plan_laws.specs.AfterSteps.{step_lives, step_fresh}
@@ -42,7 +43,7 @@ past_least later (Some d) None e = (e, refl)
 past_least later (Some d) (Some u) e = past_both later d u (nat_lt d u) refl e
 
 -- and no command reads the clock: neither the first nor any other
-holds_first : (t later : ℕ) (d u : Option ℕ) (a b : Bool) → Holds t later (least d u) (a || b) → Holds t later d a × Holds t later u b
+holds_first : (t later : ℕ) (d u : Option ℕ) (a b : Bool) → HoldsUntil t later (least d u) (a || b) → HoldsUntil t later d a × HoldsUntil t later u b
 holds_first t later d u a b (inl is) = (inl is, inl is)
 holds_first t later d u a b (inr h) =
     let past = past_least later d u h.0 in
@@ -52,17 +53,17 @@ holds_first t later d u a b (inr h) =
 -- ---- several commands
 
 -- What the commands still to come need of the rows c and d after those before them.
-record Ahead (c d : Rows) (t later base i : ℕ) (m n : RedisMap) (ds : List Command) (ps : List Part) : Type 0 where
+record Ahead (c d : Rows) (t later base i : ℕ) (m n : RedisMap) (ds : List Command) (ps : List PlannedPart) : Type 0 where
   le : t ≤ later
   means : Means c t m
   means_too : Means d later n
   lives : (k : Bytes) → IsTrue (among (keys_of_each ds) k) → IsTrue (is_key k) → LivesAlike c d later k
   above : (k : Bytes) → IsTrue (among (keys_of_each ds) k) → IsTrue (is_key k) → IsFresh c (version base i) k × IsFresh d (version base i) k
-  holds : Holds t later (least_until ps) (list_any reads_clock ds)
+  holds : HoldsUntil t later (least_until ps) (list_any reads_clock ds)
 
-module _ (c d : Rows) (t later base i : ℕ) (m n : RedisMap) (a : Command) (ds : List Command) (p : Part) (ps : List Part) (need : Ahead c d t later base i m n (a ∷ ds) (p ∷ ps)) (plan : IsPlanOf c t (version base i) m a p.batch p.reply p.until) where
+module _ (c d : Rows) (t later base i : ℕ) (m n : RedisMap) (a : Command) (ds : List Command) (p : PlannedPart) (ps : List PlannedPart) (need : Ahead c d t later base i m n (a ∷ ds) (p ∷ ps)) (plan : IsPlanOf c t (version base i) m a p.batch p.reply p.until) where
   -- nothing that the first looked ahead to has come, and nothing that the others did
-  first_holds : Holds t later p.until (reads_clock a) × Holds t later (least_until ps) (list_any reads_clock ds)
+  first_holds : HoldsUntil t later p.until (reads_clock a) × HoldsUntil t later (least_until ps) (list_any reads_clock ds)
   first_holds = holds_first t later p.until (least_until ps) (reads_clock a) (list_any reads_clock ds) need.holds
 
   -- the first of them meets what it needs
@@ -103,7 +104,7 @@ module _ (c d : Rows) (t later base i : ℕ) (m n : RedisMap) (a : Command) (ds 
       later_named k named = behind (keys_of a) (keys_of_each ds) k named
 
 -- the parts are parts on the other rows
-parts_too : (c d : Rows) (t later base i : ℕ) (m n : RedisMap) (ds : List Command) (ps : List Part) → Ahead c d t later base i m n ds ps → AreParts c t base i m ds ps → AreParts d later base i n ds ps
+parts_too : (c d : Rows) (t later base i : ℕ) (m n : RedisMap) (ds : List Command) (ps : List PlannedPart) → Ahead c d t later base i m n ds ps → AreParts c t base i m ds ps → AreParts d later base i n ds ps
 parts_too c d t later base i m n [] [] need are = are
 parts_too c d t later base i m n [] (p ∷ ps) need are = are
 parts_too c d t later base i m n (a ∷ ds) [] need are = are
@@ -113,7 +114,7 @@ parts_too c d t later base i m n (a ∷ ds) (p ∷ ps) need are = (
 )
 
 -- where the same keys are touched
-parts_touch : (c d : Rows) (t later base i : ℕ) (m n : RedisMap) (ds : List Command) (ps : List Part) → Ahead c d t later base i m n ds ps → AreParts c t base i m ds ps → touched_each m t ds ≡ touched_each n later ds
+parts_touch : (c d : Rows) (t later base i : ℕ) (m n : RedisMap) (ds : List Command) (ps : List PlannedPart) → Ahead c d t later base i m n ds ps → AreParts c t base i m ds ps → touched_each m t ds ≡ touched_each n later ds
 parts_touch c d t later base i m n [] [] need are = refl
 parts_touch c d t later base i m n [] (p ∷ ps) need are = refl
 parts_touch c d t later base i m n (a ∷ ds) [] need are = absurd are
@@ -160,7 +161,7 @@ module _ (c d : Rows) (t later base : ℕ) (m n : RedisMap) (b : Batch) (answer 
     means_too = is.means_too;
     lives = λ k named key. counts_lives c d later k is.on_grammar is.on_grammar_too key (is.still.alike k named);
     above = λ k named key. (is.ready.above k named, is.still.above k named);
-    holds = subst (λ (u : Option ℕ). Holds t later u (list_any reads_clock ds)) is.plan.ahead (not_lapsed t later until (Many ds) is.moment is.current);
+    holds = subst (λ (u : Option ℕ). HoldsUntil t later u (list_any reads_clock ds)) is.plan.ahead (not_lapsed t later until (Many ds) is.moment is.current);
   }
 
   -- it is a plan on the rows as they are now

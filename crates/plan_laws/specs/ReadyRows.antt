@@ -15,7 +15,7 @@ use Rattle.lives_model.specs.Rows.{Side, Elements, Scores, row_key}
 use Rattle.lives_model.specs.Clean.{live_at}
 use Rattle.lives_model.specs.Means.{meta_for, row_of}
 use Rattle.lives_model.specs.Plans.{HasRoom, IsFresh, IsReady, AreAsked, words_in}
-use Rattle.lives_model.specs.AskedKeys.{asked_keys}
+use Rattle.lives_model.specs.AskedKeyLaws.{asked_keys}
 use Rattle.lives_model.specs.IssuedLaws.{asked_words}
 use Rattle.plan_laws.specs.RowsFor.{IsKeptAt, CanBeKept, first_life, expire_from, life_row, row_for, raws_of, rows_for}
 use Rattle.plan_laws.specs.RawKeysRead.{element_key_by, score_at, score_key_by}

@@ -12,13 +12,13 @@ use Rattle.kv_base.specs.Map.{Bytes, Map, byte_cmp, same, same_is, same_itself, 
 use Rattle.kv_base.specs.Number.{fits}
 use Rattle.kv_base.specs.Fields.{u64, read_u64}
 use Rattle.kv_base.specs.FieldLaws.{only_u64_is_read}
-use Rattle.kv_base.specs.Inversions.{same_some, map_is, if_is, number_is}
+use Rattle.kv_base.specs.InversionLaws.{same_some, map_is, if_is, number_is}
 use Rattle.kv_base.specs.RawKeys.{score_number}
 use Rattle.redis_model.specs.Value.{Value, Str, Hash, ListOf, SetOf, ZSet, Entry}
 use Rattle.redis_model.specs.Keys.{among}
 use Rattle.redis_model.specs.Limits.{IsWholeScore}
 use Rattle.lives_model.specs.Rows.{Side, Elements, Scores, meta_key, row_key}
-pub use Rattle.lives_model.specs.AskedKeys.{name_is_key}
+pub use Rattle.lives_model.specs.AskedKeyLaws.{name_is_key}
 pub use Rattle.lives_model.specs.LifeRowLaws.{whole_fits}
 use Rattle.lives_model.specs.Means.{row_of, item_row, member_row, is_scored}
 use Rattle.plan_laws.specs.RowsFor.{first_life, indices, subkeys, raws_of}

@@ -10,7 +10,7 @@ use Rattle.kv_base.specs.Map.{Bytes, get}
 use Rattle.kv_base.specs.Number.{fits}
 use Rattle.kv_base.specs.Fields.{u64, read_u64}
 use Rattle.kv_base.specs.FieldLaws.{length-u64, u64_is_read}
-use Rattle.kv_base.specs.Inversions.{same_some, map_is, if_is, and_then_is, both_first, both_second}
+use Rattle.kv_base.specs.InversionLaws.{same_some, map_is, if_is, and_then_is, both_first, both_second}
 use Rattle.kv_base.specs.RawKeys.{RawKey, MetaKey, ElementKey, ScoreKey, is_key, is_version, score_number, score_from, is_raw_within, read_raw}
 use Rattle.kv_base.specs.RawKeyLaws.{score_number_low, score_is_read, only_raw_is_read}
 use Rattle.kv_base.specs.MetaValues.{is_payload, is_score, is_empty, read_meta, is_value_of, is_value_at, is_value_text}

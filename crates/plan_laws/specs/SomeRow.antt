@@ -5,15 +5,15 @@ use Rattle.std.specs.Prelude.{nat_le, nat_lt, option_map, Some, None}
 use Rattle.std.specs.FinMap.Entries.{find}
 use Rattle.kv_base.specs.Map.{Bytes, Map, byte_cmp, same_itself, get, size}
 use Rattle.kv_base.specs.Fields.{u64}
-use Rattle.kv_base.specs.Inversions.{both_first, both_second}
+use Rattle.kv_base.specs.InversionLaws.{both_first, both_second}
 use Rattle.kv_base.specs.RawKeys.{is_version}
 use Rattle.kv_base.specs.MetaValues.{is_deadline, is_size, is_life, is_meta_within}
 use Rattle.redis_model.specs.Value.{Value, Str, Hash, ListOf, SetOf, ZSet, Entry}
 use Rattle.lives_model.specs.Rows.{Rows, Elements}
-use Rattle.lives_model.specs.Means.{StandsFor, LifeAt, meta_for, row_of, has_life, score_text}
+use Rattle.lives_model.specs.Means.{StandsForEntry, LifeAt, meta_for, row_of, has_life, score_text}
 use Rattle.lives_model.specs.Plans.{IsFresh}
-use Rattle.lives_model.specs.Steps.{live_fits, version_fits}
-use Rattle.lives_model.specs.MeansOne.{item_at, tail_fits}
+use Rattle.lives_model.specs.StepLaws.{live_fits, version_fits}
+use Rattle.lives_model.specs.MeansOneLaws.{item_at, tail_fits}
 
 -- a map that is not empty has an entry
 pub record HasEntry {X : Type 0} (m : Map X) : Type 0 where
@@ -73,7 +73,7 @@ has_row (ZSet v) life x h fits =
     record { subkey = e.key; row = score_text e.value; is = ap (option_map score_text) e.is }
 
 -- so its version is below one from which on no row stands
-pub life_is_older : (c : Rows) (t fresh : ℕ) (k : Bytes) (e : Entry) (s : StandsFor c t k e) → has_life e.value ≡ true → IsFresh c fresh k → s.life.version < fresh
+pub life_is_older : (c : Rows) (t fresh : ℕ) (k : Bytes) (e : Entry) (s : StandsForEntry c t k e) → has_life e.value ≡ true → IsFresh c fresh k → s.life.version < fresh
 life_is_older c t fresh k e s h none = below (nat_lt s.life.version fresh) refl
   where
     there : (version : ℕ) → version ≡ s.life.version → fresh ≤ version → ⊥

@@ -3,7 +3,7 @@
 use Rattle.std.proofs.Common.{◌≡◌, ℕ, ◌≤◌, refl, sym, ap, subst, ◌∙◌, Bool, true, false, cond, ◌&&◌, not, List, [], ◌∷◌, ◌++◌, map, inl, inr, arith}
 use Rattle.std.specs.Prelude.{◌==◌, ◌+◌, length, Option, Some, None, IsTrue}
 use Rattle.kv_base.specs.Map.{Bytes, get}
-use Rattle.kv_base.specs.Inversions.{both_second, number_is}
+use Rattle.kv_base.specs.InversionLaws.{both_second, number_is}
 use Rattle.kv_base.specs.RawKeys.{is_key, is_version}
 use Rattle.batch_codec.specs.Batches.{Batch}
 use Rattle.redis_model.specs.declared.reply.Reply.{Reply}
@@ -25,11 +25,11 @@ use Rattle.key_locality.specs.Local.{apply_agrees}
 use Rattle.key_locality.specs.AliveLocal.{apply_alive_replies, apply_alive_agrees, touched_later}
 use Rattle.lives_model.specs.Rows.{Rows, Side, row_key}
 use Rattle.lives_model.specs.Clean.{live_at}
-use Rattle.lives_model.specs.Means.{Means, Stands, LifeAt, meta_for, row_of, has_life}
+use Rattle.lives_model.specs.Means.{Means, MeansAt, LifeAt, meta_for, row_of, has_life}
 use Rattle.lives_model.specs.Moved.{items_of, head_after}
-use Rattle.lives_model.specs.Plans.{is_store, same_type, holds_type, new_life, life_in, life_before, life_after, changed, Writes, Leaves, touches, KeyPlan, IsStep, deadlines, least_above, IsPlanOf, IsFresh}
-use Rattle.lives_model.specs.Steps.{alive_means, version_fits, version_for}
-use Rattle.lives_model.specs.MeansOne.{stands_one}
+use Rattle.lives_model.specs.Plans.{is_store, same_type, holds_type, new_life, life_in, life_before, life_after, changed, WritesEntry, LeavesEntry, touches, KeyPlan, IsStep, deadlines, least_above, IsPlanOf, IsFresh}
+use Rattle.lives_model.specs.StepLaws.{alive_means, version_fits, version_for}
+use Rattle.lives_model.specs.MeansOneLaws.{stands_one}
 use Rattle.lives_model.specs.CleanLaws.{means_later}
 use Rattle.plan_laws.specs.Ahead.{least_later}
 use Rattle.plan_laws.specs.AlikeRows.{life_of, RowsAlike, LivesAlike, stands_too, long_holds_none, same_live}
@@ -140,7 +140,7 @@ module _ (c d : Rows) (t later fresh : ℕ) (m n : RedisMap) (a : Command) (meet
     live_later_same : live_at c later k ≡ live_at c t k
     live_later_same =
         same_live c t later k (get m k) meets.le (meets.means.stands k)
-        (subst (Stands c later k) (sym (now_later k named)) ((means_later c t later m meets.le meets.means).stands k))
+        (subst (MeansAt c later k) (sym (now_later k named)) ((means_later c t later m meets.le meets.means).stands k))
 
     -- and is the same on both
     live_same : live_at c t k ≡ live_at d later k
@@ -160,7 +160,7 @@ module _ (c d : Rows) (t later fresh : ℕ) (m n : RedisMap) (a : Command) (meet
         λ i. record { version = (before i).version; head = head i }
 
     -- a life that goes on has the same rows on both
-    going_on : (v : Value) (o : Option Entry) → Stands c t k o → holds_type o v ≡ true → RowsAlike c d k (life_in (live_at c t k) (new_life fresh)).version
+    going_on : (v : Value) (o : Option Entry) → MeansAt c t k o → holds_type o v ≡ true → RowsAlike c d k (life_in (live_at c t k) (new_life fresh)).version
     going_on v None s e = absurd (cc)
     going_on v (Some x) s e =
         let h = collection x.value v e in
@@ -197,7 +197,7 @@ module _ (c d : Rows) (b : Batch) (k : Bytes) (e : Entry) (life : LifeAt) where
   same_rows false s side version subkey is at alike = refl
 
   -- where the rows of the life are the same
-  writes_too : (has_life e.value ≡ true → RowsAlike c d k life.version) → Writes c b k e life → Writes d b k e life
+  writes_too : (has_life e.value ≡ true → RowsAlike c d k life.version) → WritesEntry c b k e life → WritesEntry d b k e life
   writes_too alike w = record {
     expire = w.expire;
     deadline = w.deadline;
@@ -212,10 +212,10 @@ module _ (c d : Rows) (b : Batch) (k : Bytes) (e : Entry) (life : LifeAt) where
 
 module _ (c d : Rows) (t later fresh : ℕ) (m n : RedisMap) (a : Command) (b : Batch) (meets : Meets c d t later fresh m n a) where
   -- what the batch does at a touched key
-  leaves_too : (k : Bytes) (o : Option Entry) → IsTrue (among (keys_of a) k) → Leaves c t fresh m a b k o → Leaves d later fresh n a b k o
+  leaves_too : (k : Bytes) (o : Option Entry) → IsTrue (among (keys_of a) k) → LeavesEntry c t fresh m a b k o → LeavesEntry d later fresh n a b k o
   leaves_too k None named l = l
   leaves_too k (Some e) named l =
-      subst (Writes d b k e) (life_same c d t later fresh m n a meets k named l.key e.value)
+      subst (WritesEntry d b k e) (life_same c d t later fresh m n a meets k named l.key e.value)
       (writes_too c d b k e (life_after c t fresh m a k e.value)
       (λ h. life_rows c d t later fresh m n a meets k named l.key e.value (version_fits e.value (life_after c t fresh m a k e.value) l.expire h l.fits)) l)
 
@@ -228,7 +228,7 @@ module _ (c d : Rows) (t later fresh : ℕ) (m n : RedisMap) (a : Command) (b : 
   key_too k (inl p) = inl (sym (touches_same k) ∙ p.0, p.1)
   key_too k (inr p) =
       let named = touched_is_named m t a k p.0 in
-      inr (sym (touches_same k) ∙ p.0, leaves_too k (get (apply_alive n later a).1 k) named (subst (Leaves c t fresh m a b k) (left_same c d t later fresh m n a meets k named) p.1))
+      inr (sym (touches_same k) ∙ p.0, leaves_too k (get (apply_alive n later a).1 k) named (subst (LeavesEntry c t fresh m a b k) (left_same c d t later fresh m n a meets k named) p.1))
 
   -- the step is one on the other rows
   pub step_too : (answer : Reply) → IsStep c t fresh m a b answer → IsStep d later fresh n a b answer

@@ -21,12 +21,12 @@ use Rattle.redis_model.specs.Machine.{apply_alive}
 use Rattle.lives_model.specs.Rows.{Rows}
 use Rattle.lives_model.specs.Clean.{live_at}
 use Rattle.lives_model.specs.Means.{Means}
-use Rattle.lives_model.specs.Plans.{IsPlan, IsPlanned, HasRoom, IsReady, IsAsked, AreAsked, Part, AreParts, join_parts, least, least_until, version, words, keys_of_each}
-use Rattle.lives_model.specs.Steps.{step_means}
-use Rattle.lives_model.specs.Joined.{after-empty, after-joined}
-use Rattle.lives_model.specs.WrittenKeys.{in_front, behind}
-use Rattle.lives_model.specs.AskedKeys.{asked_keys}
-use Rattle.lives_model.specs.ListRoom.{less_room, step_room}
+use Rattle.lives_model.specs.Plans.{IsPlan, IsPlanned, HasRoom, IsReady, IsAsked, AreAsked, PlannedPart, AreParts, join_parts, least, least_until, version, words, keys_of_each}
+use Rattle.lives_model.specs.StepLaws.{step_means}
+use Rattle.lives_model.specs.JoinedBatchLaws.{after-empty, after-joined}
+use Rattle.lives_model.specs.WrittenKeyLaws.{in_front, behind}
+use Rattle.lives_model.specs.AskedKeyLaws.{asked_keys}
+use Rattle.lives_model.specs.ListRoomLaws.{less_room, step_room}
 use Rattle.plan_laws.specs.AfterSteps.{step_fresh}
 use Rattle.plan_laws.specs.Transactions.{IsFirstStep, ArePlans, IsBegun}
 
@@ -87,7 +87,7 @@ next_version : (base i : ℕ) → version base i + 1 ≡ version base (i + 1)
 next_version base i = omega arith
 
 -- on rows that are ready for all of them, and mean a map
-parts_of_plans : (c : Rows) (t base i : ℕ) (m : RedisMap) (ds : List Command) (ps : List Part) → base ≤ last_sequence → i + length ds ≤ 1024 → AreAsked (Many ds) → Means c t m
+parts_of_plans : (c : Rows) (t base i : ℕ) (m : RedisMap) (ds : List Command) (ps : List PlannedPart) → base ≤ last_sequence → i + length ds ≤ 1024 → AreAsked (Many ds) → Means c t m
     → IsReady c t (version base i) (Many ds) → ArePlans c t base i ds ps → AreParts c t base i m ds ps
 parts_of_plans c t base i m [] [] low few asked means ready are = are
 parts_of_plans c t base i m [] (p ∷ ps) low few asked means ready are = are
@@ -145,17 +145,17 @@ least_of (Some d) (Some u) None = least_none (least (Some d) (Some u))
 least_of (Some d) (Some u) (Some v) = least_by d u v _ _ _ refl refl refl
 
 -- the least of the deadlines of one part more
-least_then : (ps : List Part) (p : Part) → least_until (ps ++ p ∷ []) ≡ least (least_until ps) p.until
+least_then : (ps : List PlannedPart) (p : PlannedPart) → least_until (ps ++ p ∷ []) ≡ least (least_until ps) p.until
 least_then [] p = least_none p.until
 least_then (q ∷ ps) p = ap (least q.until) (least_then ps p) ∙ sym (least_of q.until (least_until ps) p.until)
 
 -- the batch of one part more
-join_then : (b : Batch) (ps : List Part) (p : Part) → join_parts b (ps ++ p ∷ []) ≡ joined (join_parts b ps) p.batch
+join_then : (b : Batch) (ps : List PlannedPart) (p : PlannedPart) → join_parts b (ps ++ p ∷ []) ≡ joined (join_parts b ps) p.batch
 join_then b [] p = refl
 join_then b (q ∷ ps) p = join_then (joined b q.batch) ps p
 
 -- the plans of one command more
-plans_then : (c : Rows) (b : Batch) (t base i : ℕ) (ds : List Command) (ps : List Part) (d : Command) (p : Part) → ArePlans (after c b) t base i ds ps
+plans_then : (c : Rows) (b : Batch) (t base i : ℕ) (ds : List Command) (ps : List PlannedPart) (d : Command) (p : PlannedPart) → ArePlans (after c b) t base i ds ps
     → IsPlan (after c (join_parts b ps)) t (version base (i + length ds)) d p.batch p.reply p.until → ArePlans (after c b) t base i (ds ++ d ∷ []) (ps ++ p ∷ [])
 plans_then c b t base i [] [] d p are plan =
     let here : i + 0 ≡ i = omega arith in
@@ -180,7 +180,7 @@ pub begun_then : (c : Rows) (t base : ℕ) (ds : List Command) (b : Batch) (repl
     → IsBegun c t base ds b replies until → IsPlan (after c b) t (version base (length ds)) d e answer later
     → IsBegun c t base (ds ++ d ∷ []) (joined b e) (replies ++ answer ∷ []) (least until later)
 begun_then c t base ds b replies until d e answer later begun plan =
-    let part : Part = record { batch = e; reply = answer; until = later } in
+    let part : PlannedPart = record { batch = e; reply = answer; until = later } in
     let start = after-empty c in
     let place : length ds ≡ 0 + length ds = omega arith in
     record {
@@ -190,6 +190,6 @@ begun_then c t base ds b replies until d e answer later begun plan =
           (subst (λ (n : ℕ). IsPlan (after c (join_parts empty begun.parts)) t (version base n) d e answer later) place
           (subst (λ (n : Batch). IsPlan (after c n) t (version base (length ds)) d e answer later) begun.batch plan)));
       batch = ap (λ (n : Batch). joined n e) begun.batch ∙ sym (join_then empty begun.parts part);
-      answers = ap (λ rs. rs ++ answer ∷ []) begun.answers ∙ sym (map-append (λ (p : Part). p.reply) begun.parts (part ∷ []));
+      answers = ap (λ rs. rs ++ answer ∷ []) begun.answers ∙ sym (map-append (λ (p : PlannedPart). p.reply) begun.parts (part ∷ []));
       ahead = ap (λ u. least u later) begun.ahead ∙ sym (least_then begun.parts part);
     }

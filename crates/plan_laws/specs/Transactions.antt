@@ -9,7 +9,7 @@ use Rattle.redis_model.specs.declared.command.Cmds.TheVariants.{Many}
 use Rattle.redis_model.specs.Value.{RedisMap}
 use Rattle.lives_model.specs.Rows.{Rows}
 use Rattle.lives_model.specs.Means.{Means}
-use Rattle.lives_model.specs.Plans.{IsStep, IsPlan, IsReady, AreAsked, Part, join_parts, least_until, version}
+use Rattle.lives_model.specs.Plans.{IsStep, IsPlan, IsReady, AreAsked, PlannedPart, join_parts, least_until, version}
 
 -- The first of several commands is carried out, on rows that are ready for all of them. The others have versions left.
 pub record IsFirstStep (c : Rows) (t fresh : ℕ) (m : RedisMap) (d : Command) (ds : List Command) (b : Batch) (answer : Reply) : Type 0 where
@@ -21,7 +21,7 @@ pub record IsFirstStep (c : Rows) (t fresh : ℕ) (m : RedisMap) (d : Command) (
 
 -- These are plans of these commands, the first of which has place i: each on the rows after those before it, whatever they
 -- mean.
-abbrev pub ArePlans : Rows → ℕ → ℕ → ℕ → List Command → List Part → Type 0
+abbrev pub ArePlans : Rows → ℕ → ℕ → ℕ → List Command → List PlannedPart → Type 0
 ArePlans c t base i [] [] = Unit {0}
 ArePlans c t base i (d ∷ ds) (p ∷ ps) = IsPlan c t (version base i) d p.batch p.reply p.until × ArePlans (after c p.batch) t base (i + 1) ds ps
 ArePlans c t base i [] (p ∷ ps) = ⊥
@@ -30,7 +30,7 @@ ArePlans c t base i (d ∷ ds) [] = ⊥
 -- The first commands of a transaction are planned: their batches joined are this one, their replies these, and the least of
 -- the deadlines that they look ahead to is this.
 pub record IsBegun (c : Rows) (t base : ℕ) (ds : List Command) (b : Batch) (replies : List Reply) (until : Option ℕ) : Type 0 where
-  pub parts : List Part
+  pub parts : List PlannedPart
   pub plans : ArePlans c t base 0 ds parts
   pub batch : b ≡ join_parts empty parts
   pub answers : replies ≡ map (λ p. p.reply) parts

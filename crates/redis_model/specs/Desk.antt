@@ -1,7 +1,9 @@
 -- What a desk answers to what it is asked, and what its caller sees of the history.
 use Rattle.std.specs.Prelude.{◌≡◌, ◌≢◌, ◌≤◌, ◌<◌, ◌-◌, ◌^◌, ◌⊎◌, ℕ, Bool, true, false, if◌then◌else◌, is_ok, is_some, IsSome, IsFalse, OnErr, List, [], ◌∷◌, ◌++◌, Option, Some, None, Result, Ok, Err}
+use Rattle.std.specs.Option.{option_map_or}
 use Rattle.kv_outside.specs.Causes.{Rose}
 use Rattle.kv_outside.specs.Readings as readings
+use Rattle.redis_model.specs.declared.command.Cmds.{Cmds}
 use Rattle.redis_model.specs.declared.reply.Reply.{Reply}
 use Rattle.redis_model.specs.declared.history.Step.{Step}
 use Rattle.redis_model.specs.declared.history.Step.TheVariants.{Tick, Job}
@@ -10,7 +12,7 @@ use Rattle.redis_model.specs.declared.history.JobMark.TheVariants.{Begun, Done, 
 use Rattle.redis_model.specs.declared.desk.DeskFault.{DeskFault}
 use Rattle.redis_model.specs.declared.desk.DeskFault.TheVariants as fault
 use Rattle.redis_model.specs.About.{writes}
-use Rattle.redis_model.specs.Asks.{Ask, Call, entry_of, may_write, pinned_by}
+use Rattle.redis_model.specs.Asks.{Ask, Call, commands_of, entry_of, may_write, pinned_by}
 use Rattle.redis_model.specs.DeskState.{DeskState}
 use Rattle.redis_model.specs.Machine.{State, pin_of, step}
 use Rattle.redis_model.specs.Legal.{IsLegal, calls_of, jobs_of}
@@ -81,9 +83,9 @@ pub record Withheld (caller : ℕ) (first : State) (seen : List Place) (now : �
   pub grown : after ≡ seen ++ added
   pub own : IsWithheld caller (has_pin (state_at first seen) caller) now ask (mine caller added)
 
-abbrev pub Leaves : ℕ → State → List Place → ℕ → Ask → Result Reply DeskFault → List Place → Type 0
-Leaves caller first seen now ask (Ok reply) after = Entered caller first seen now ask reply after
-Leaves caller first seen now ask (Err e) after = Withheld caller first seen now ask after
+abbrev pub LeavesPlaces : ℕ → State → List Place → ℕ → Ask → Result Reply DeskFault → List Place → Type 0
+LeavesPlaces caller first seen now ask (Ok reply) after = Entered caller first seen now ask reply after
+LeavesPlaces caller first seen now ask (Err e) after = Withheld caller first seen now ask after
 
 -- ---- why a call fails
 
@@ -108,10 +110,11 @@ HasReason before desk (Err fault.Busy) = IsSome desk.met
 -- ---- the calls
 
 -- a reading was taken, and all else is as it was but what is told of the last call
-pub record TakesReading (old new : DeskState) (now : ℕ) : Type 0 where
+pub record TakesOnlyReading (old new : DeskState) (now : ℕ) : Type 0 where
   pub reading : readings.TakesReading old.readings new.readings now
   pub last : new.last ≡ Some now
   pub stands : (opening : Opening) (seen : List Place) → old.stands opening seen → new.stands opening seen
+  pub kept : (failed : List Cmds) → old.kept failed → new.kept failed
   pub number : new.number ≡ old.number
   pub pinned : new.pinned ≡ old.pinned
   pub faults : new.faults ≡ old.faults
@@ -121,17 +124,26 @@ abbrev pub fault_of : Result Reply DeskFault → Option DeskFault
 fault_of (Ok reply) = None
 fault_of (Err e) = Some e
 
+-- the commands whose calls failed, and behind them these ones where their call did
+abbrev pub failed_with : {A : Type 0} → Cmds → Result A DeskFault → List Cmds → List Cmds
+failed_with ds (Ok reply) failed = failed
+failed_with ds (Err e) failed = failed ++ ds ∷ []
+
+abbrev pub failed_by : Ask → Result Reply DeskFault → List Cmds → List Cmds
+failed_by ask result failed = option_map_or (λ ds. failed_with ds result failed) (commands_of ask) failed
+
 -- whether a key may change, of a caller with a pin or without one
 abbrev pub can_write : Bool → Ask → Bool
 can_write true ask = false
 can_write false ask = may_write ask
 
 -- What was asked was answered: where the desk stood for a history, it stands for one that goes on by that, and what
--- changes no key plans nothing to write. What a call that failed planned was planned for what was asked. The desk tells
+-- changes no key plans nothing to write. What it stands for is kept, but for the commands of calls that failed. What a call that failed planned was planned for what was asked. The desk tells
 -- its fault, and no job was asked for.
 pub record TakesCall (old new : DeskState) (now : ℕ) (ask : Ask) (result : Result Reply DeskFault) : Type 0 where
   pub history : (opening : Opening) (seen : List Place) → old.stands opening seen
-      → (after : List Place) × new.stands opening after × Follows old.number seen after × Leaves old.number opening.state seen now ask result after
+      → (after : List Place) × new.stands opening after × Follows old.number seen after × LeavesPlaces old.number opening.state seen now ask result after
+  pub kept : (failed : List Cmds) → old.kept failed → new.kept (failed_by ask result failed)
   pub reason : HasReason old.faults new result
   pub idle : (opening : Opening) (seen : List Place) → old.stands opening seen → IsFalse (can_write old.pinned ask) → new.body ≡ 0
   pub planned : OnErr result (new.planned now ask)

@@ -1,6 +1,7 @@
 -- What is told of a desk.
 use Rattle.std.specs.Prelude.{ℕ, Bool, List, Option}
 use Rattle.kv_base.specs.declared.name.FileName.{FileName}
+use Rattle.redis_model.specs.declared.command.Cmds.{Cmds}
 use Rattle.redis_model.specs.declared.desk.DeskFault.{DeskFault}
 use Rattle.redis_model.specs.declared.history.JobKind.{JobKind}
 use Rattle.redis_model.specs.declared.history.Place.{Place}
@@ -10,6 +11,9 @@ use Rattle.redis_model.specs.Places.{Opening}
 pub record DeskState : Type 1 where
   -- the openings and the histories that it stands for, as far as its caller has seen them
   pub stands : Opening → List Place → Type 0
+  -- That what it stands for is kept, whatever a crash leaves. Calls failed that asked for these commands: a crash may leave
+  -- what carries one of them out, too.
+  pub kept : List Cmds → Type 0
   -- the caller's number in these histories, and whether it has a pin
   pub number : ℕ
   pub pinned : Bool

@@ -11,6 +11,7 @@ pub mod Machine
 pub mod Render
 pub mod RenderLaws
 pub mod About
+pub mod Deadlines
 pub mod Asks
 pub mod Places
 pub mod Limits
@@ -20,7 +21,7 @@ pub mod Codes
 pub mod Valid
 pub mod ValidLaws
 pub mod ReadingLaws
-pub mod Elsewhere
+pub mod ElsewhereLaws
 pub mod Touched
 pub mod TouchedLaws
 pub mod MachineLaws
@@ -28,5 +29,6 @@ pub mod Stripes
 pub mod StripesLaws
 pub mod Families
 pub mod Built
+pub mod BuiltLaws
 pub mod DeskState
 pub mod Desk

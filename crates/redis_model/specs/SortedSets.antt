@@ -55,23 +55,23 @@ is_score s = int_le (negsuc (max_score - 1)) s && int_le s (pos max_score)
 -- ---- ZADD and ZINCRBY
 
 -- a sorted set, how many members were added, and how many changed their score
-pub record Tally : Type 0 where
+pub record ZaddTally : Type 0 where
   pub scores : Map ℤ
   pub added : ℕ
   pub changed : ℕ
 
 -- one pair of ZADD: NX leaves a member that is there, XX one that is not
-abbrev pub score_set : When → Tally → Scored → Option ℤ → Tally
+abbrev pub score_set : When → ZaddTally → Scored → Option ℤ → ZaddTally
 score_set w n e None = if allowed w false then record { scores = insert n.scores e.0 e.1; added = n.added + 1; changed = n.changed } else n
 score_set w n e (Some old) =
     if allowed w true && not (int_eq old e.1) then record { scores = insert n.scores e.0 e.1; added = n.added; changed = n.changed + 1 } else n
 
 -- the pairs in their order
-abbrev pub all_set : When → Map ℤ → List Scored → Tally
+abbrev pub all_set : When → Map ℤ → List Scored → ZaddTally
 all_set w z es = fold (λ n e. score_set w n e (get n.scores e.0)) (record { scores = z; added = 0; changed = 0 }) es
 
 -- CH counts those that changed, too
-abbrev pub counted : Bool → Tally → ℕ
+abbrev pub counted : Bool → ZaddTally → ℕ
 counted false n = n.added
 counted true n = n.added + n.changed
 

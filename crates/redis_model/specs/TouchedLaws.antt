@@ -19,7 +19,7 @@ use Rattle.redis_model.specs.Keys.{among}
 use Rattle.redis_model.specs.About.{keys_of, writes}
 use Rattle.redis_model.specs.Apply.{apply, carried_out}
 use Rattle.redis_model.specs.ReadingLaws.{reading_keeps}
-use Rattle.redis_model.specs.Elsewhere.{apply_elsewhere}
+use Rattle.redis_model.specs.ElsewhereLaws.{apply_elsewhere}
 use Rattle.redis_model.specs.Touched.{same_value, same_deadline, same_entry, differs, written_again, once, is_touched, touched_by, touched}
 
 -- ---- the tests tell what is equal

@@ -452,28 +452,3 @@ pub enum Cmds {
     /// The commands of a transaction, with the array of their replies.
     Many(Commands),
 }
-
-#[cfg(test)]
-mod tests {
-    use super::*;
-    use std::test::Fail;
-
-    #[test]
-    fn what_is_asked_of_a_command(rt: HostRuntime) -> Result<(), Fail> {
-        let get = Command::Get(Key::new(Blob::copy(rt.alloc(), b"a")?)?, 36);
-        assert!(rt; !get.writes());
-        assert_eq!(rt; get.weight(), 36);
-        let expire = Command::Expire(
-            Key::new(Blob::copy(rt.alloc(), b"a")?)?,
-            Expiry::After(1000),
-            60,
-        );
-        assert!(rt; expire.writes());
-        let Command::Expire(_, deadline, weight) = expire.due(5) else {
-            return Err("another command".into());
-        };
-        assert_eq!(rt; deadline, Expiry::At(1005));
-        assert_eq!(rt; weight, 60);
-        Ok(())
-    }
-}

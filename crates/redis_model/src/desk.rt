@@ -2,7 +2,7 @@ ghost use base.Fml.{GName};
 ghost use Rattle.std.specs.Prelude.{◌≡◌, IsTrue, List, Some};
 ghost use Rattle.redis_model.specs.Asks.{Call};
 ghost use Rattle.redis_model.specs.Built.{built};
-ghost use Rattle.redis_model.specs.Desk.{IsSeen, TakesReading, TakesCall, fault_of};
+ghost use Rattle.redis_model.specs.Desk.{IsSeen, TakesOnlyReading, TakesCall, fault_of};
 ghost use Rattle.redis_model.specs.DeskState.{DeskState};
 ghost use Rattle.redis_model.specs.Limits.{IsWithin, IsDue};
 ghost use Rattle.redis_model.specs.Places.{Opening};
@@ -77,7 +77,7 @@ pub trait Desk {
 
     /// The next reading of the clock, in milliseconds.
     fn now(&mut self) -> u64
-        ensures reading { TakesReading (told self.old) (told self.new) result }
+        ensures reading { TakesOnlyReading (told self.old) (told self.new) result }
         ensures loans { loans self.new ≡ loans self.old };
 
     /// Answers a command at the reading that was taken last. Amounts of time in it have become deadlines.

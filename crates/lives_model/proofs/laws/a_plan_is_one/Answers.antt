@@ -1,4 +1,4 @@
-use Rattle.lives_model.specs.OnePlan.{plans_same}
+use Rattle.lives_model.specs.OnePlanLaws.{plans_same}
 use Rattle.lives_model.proofs.laws.a_plan_is_one.Goals as goal
 
 pub returns : goal.returns

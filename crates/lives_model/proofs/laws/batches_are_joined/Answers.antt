@@ -1,4 +1,4 @@
-use Rattle.lives_model.specs.Joined.{after-joined}
+use Rattle.lives_model.specs.JoinedBatchLaws.{after-joined}
 use Rattle.lives_model.specs.JoinedLaws.{joined_of, nothing_joined}
 use Rattle.lives_model.proofs.laws.batches_are_joined.Goals as goal
 

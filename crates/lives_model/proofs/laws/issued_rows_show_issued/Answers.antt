@@ -1,4 +1,4 @@
-use Rattle.lives_model.specs.IssuedRows.{shown_is_issued}
+use Rattle.lives_model.specs.IssuedRowLaws.{shown_is_issued}
 use Rattle.lives_model.proofs.laws.issued_rows_show_issued.Goals as goal
 
 pub returns : goal.returns

@@ -1,4 +1,4 @@
-use Rattle.lives_model.specs.IssuedRows.{issued_later}
+use Rattle.lives_model.specs.IssuedRowLaws.{issued_later}
 use Rattle.lives_model.proofs.laws.issued_rows_stay_issued.Goals as goal
 
 pub returns : goal.returns

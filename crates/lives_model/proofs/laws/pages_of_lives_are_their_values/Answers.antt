@@ -1,4 +1,4 @@
-use Rattle.lives_model.specs.LifePages.{life_whole, page_from, page_whole, stands_rows}
+use Rattle.lives_model.specs.LifePageLaws.{life_whole, page_from, page_whole, stands_rows}
 use Rattle.lives_model.proofs.laws.pages_of_lives_are_their_values.Goals as goal
 
 pub returns-clause-all : goal.returns-clause-all

@@ -1,4 +1,4 @@
-use Rattle.lives_model.specs.IssuedRows.{committed_rows_issued, merged_issued}
+use Rattle.lives_model.specs.IssuedRowLaws.{committed_rows_issued, merged_issued}
 use Rattle.lives_model.proofs.laws.plans_write_issued_rows.Goals as goal
 
 pub returns-clause-written : goal.returns-clause-written

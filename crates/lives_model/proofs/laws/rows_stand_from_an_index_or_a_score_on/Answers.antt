@@ -1,4 +1,4 @@
-use Rattle.lives_model.specs.LifeRanges.{items_from, scores_from}
+use Rattle.lives_model.specs.LifeRangeLaws.{items_from, scores_from}
 use Rattle.lives_model.proofs.laws.rows_stand_from_an_index_or_a_score_on.Goals as goal
 
 pub returns-clause-items : goal.returns-clause-items

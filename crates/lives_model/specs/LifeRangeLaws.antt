@@ -19,7 +19,7 @@ use Rattle.redis_model.specs.SortedSets.{Scored, ranked}
 use Rattle.lives_model.specs.Rows.{Side, Scores, space_of, row_key}
 use Rattle.lives_model.specs.Means.{HasWholeScores}
 use Rattle.lives_model.specs.LifeRows.{by_index, rank_key, value_rows, rows_from}
-use Rattle.lives_model.specs.LifeRowLaws.{AllFit, all_fit, fit_order}
+use Rattle.lives_model.specs.LifeRowLaws.{ScoresFit, all_fit, fit_order}
 
 -- what stands behind the prefix of a life in a raw key of it is the subkey
 pub behind_prefix : (side : Side) (k : Bytes) (version : ℕ) (subkey : Bytes) → drop (length (life_prefix (space_of side) k version)) (row_key side k version subkey) ≡ subkey
@@ -89,7 +89,7 @@ below_score e s h g =
     by_score a b = grind (arith, nat_tests, ints)
 
 -- from a score on stand the members whose score is not below it
-ranks_from : (es : List Scored) (s : ℤ) → AllFit es → IsTrue (fits s) → rows_from (u64 (score_number s)) (map (λ e. (rank_key e, [])) es) ≡ map (λ e. (rank_key e, [])) (filter (λ e. int_le s e.1) es)
+ranks_from : (es : List Scored) (s : ℤ) → ScoresFit es → IsTrue (fits s) → rows_from (u64 (score_number s)) (map (λ e. (rank_key e, [])) es) ≡ map (λ e. (rank_key e, [])) (filter (λ e. int_le s e.1) es)
 ranks_from [] s all h = refl
 ranks_from (e ∷ es) s all h = by_test (int_le s e.1) (below_score e s all.0 h) (ranks_from es s all.1 h)
   where

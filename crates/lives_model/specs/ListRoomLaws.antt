@@ -2,7 +2,7 @@
 use Rattle.std.proofs.Common.{◌≡◌, ℕ, ◌+◌, ◌^◌, ◌<◌, ◌≤◌, refl, sym, ap, subst, ◌∙◌, Bool, true, false, cond, length, inl, inr, arith}
 use Rattle.std.specs.Prelude.{Option, Some, None, option_and_then}
 use Rattle.kv_base.specs.Map.{Bytes, kept, get}
-use Rattle.kv_base.specs.Inversions.{kept_is}
+use Rattle.kv_base.specs.InversionLaws.{kept_is}
 use Rattle.kv_base.specs.MetaValues.{MetaValue, StringValue, LifeValue, ListValue, read_meta}
 use Rattle.batch_codec.specs.Batches.{Batch, after}
 use Rattle.redis_model.specs.declared.reply.Reply.{Reply}
@@ -13,11 +13,12 @@ use Rattle.redis_model.specs.Machine.{apply_alive}
 use Rattle.lives_model.specs.Rows.{Rows, meta_key}
 use Rattle.lives_model.specs.Clean.{is_live, live_at}
 use Rattle.lives_model.specs.Means.{Means, meta_for}
-use Rattle.lives_model.specs.Plans.{HasRoom, words, life_after, Leaves, KeyPlan, touches}
+use Rattle.lives_model.specs.Plans.{HasRoom, words, life_after, LeavesEntry, KeyPlan, touches}
 use Rattle.lives_model.specs.Issued.{meta_at}
-use Rattle.lives_model.specs.Steps.{applied, get-alive, live_still, live_gone}
+use Rattle.lives_model.specs.StepLaws.{applied, get-alive, live_still, live_gone}
 use Rattle.lives_model.specs.IssuedLaws.{meta_put}
-use Rattle.lives_model.specs.IssuedLists.{IsLiveOrNew, IsMoved, list_moved}
+use Rattle.lives_model.specs.IssuedLists.{IsLiveOrNew, IsMoved}
+use Rattle.lives_model.specs.IssuedListLaws.{list_moved}
 
 -- metadata has the room that it has, and less
 pub less_room : (n left : ℕ) (o : Option MetaValue) → left ≤ n → HasRoom n o → HasRoom left o
@@ -54,7 +55,7 @@ moved_room n left head items live h room moved = by_was moved.was
 
 module _ (c : Rows) (t fresh left : ℕ) (m : RedisMap) (d : Command) (b : Batch) (k : Bytes) (few : words d + left ≤ 2 ^ 20) (room : HasRoom (words d + left) (live_at c t k)) (means : Means c t m) where
   -- the metadata that is put at a touched key
-  put_room : (e : Entry) → touches m t d k ≡ true → get (apply_alive m t d).1 k ≡ Some e → Leaves c t fresh m d b k (Some e) → HasRoom left (meta_at (after c b) k)
+  put_room : (e : Entry) → touches m t d k ≡ true → get (apply_alive m t d).1 k ≡ Some e → LeavesEntry c t fresh m d b k (Some e) → HasRoom left (meta_at (after c b) k)
   put_room e on is l = subst (HasRoom left) (sym (meta_put c b k _ l.meta l.fits)) (by_value e.value refl)
     where
       there : get (apply m t d).1 k ≡ Some e
@@ -69,7 +70,7 @@ module _ (c : Rows) (t fresh left : ℕ) (m : RedisMap) (d : Command) (b : Batch
       by_value (ZSet v) value = tt
 
   -- what is left there
-  leaves_room : (o : Option Entry) → touches m t d k ≡ true → get (apply_alive m t d).1 k ≡ o → Leaves c t fresh m d b k o → HasRoom left (live_at (after c b) t k)
+  leaves_room : (o : Option Entry) → touches m t d k ≡ true → get (apply_alive m t d).1 k ≡ o → LeavesEntry c t fresh m d b k o → HasRoom left (live_at (after c b) t k)
   unfolding live_at meta_at
   leaves_room None on is l = subst (HasRoom left) (sym (live_gone c b t k l.meta)) tt
   leaves_room (Some e) on is l = room_kept left (is_live t) (option_and_then read_meta (get (after c b) (meta_key k))) (put_room e on is l)

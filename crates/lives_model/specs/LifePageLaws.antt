@@ -6,9 +6,9 @@ use Rattle.kv_base.specs.RawKeys.{life_prefix}
 use Rattle.kv_base.specs.MetaValues.{is_meta_within}
 use Rattle.redis_model.specs.Value.{Value, Str, Hash, ListOf, SetOf, ZSet, Entry}
 use Rattle.lives_model.specs.Rows.{Rows, Side, space_of, row_key}
-use Rattle.lives_model.specs.Means.{LifeAt, StandsFor, meta_for, has_life}
-use Rattle.lives_model.specs.MeansOne.{tail_fits}
-use Rattle.lives_model.specs.Steps.{live_fits}
+use Rattle.lives_model.specs.Means.{LifeAt, StandsForEntry, meta_for, has_life}
+use Rattle.lives_model.specs.MeansOneLaws.{tail_fits}
+use Rattle.lives_model.specs.StepLaws.{live_fits}
 use Rattle.lives_model.specs.Page.{page}
 use Rattle.lives_model.specs.Passing.{passing, asked}
 use Rattle.lives_model.specs.PrefixLaws.{passing_under, passing_all}
@@ -17,7 +17,7 @@ use Rattle.lives_model.specs.LifeRows.{value_rows, rows_from, in_life, HasIndice
 use Rattle.lives_model.specs.LifeRowLaws.{value_rows_sorted, value_rows_found}
 
 -- a collection that rows stand for has its rows
-pub stands_rows : (c : Rows) (t : ℕ) (k : Bytes) (e : Entry) (s : StandsFor c t k e) → IsTrue (has_life e.value) → HasRowsOf c k s.life e.value
+pub stands_rows : (c : Rows) (t : ℕ) (k : Bytes) (e : Entry) (s : StandsForEntry c t k e) → IsTrue (has_life e.value) → HasRowsOf c k s.life e.value
 stands_rows c t k e s h = record { scores = s.scores; indices = by_value e.value s.life s.expire (live_fits c t k _ s.meta); rows = s.rows h }
   where
     by_value : (v : Value) (life : LifeAt) (x : ℕ) → is_meta_within (meta_for v life x) ≡ true → HasIndices v life.head

@@ -12,7 +12,7 @@ use Rattle.redis_model.specs.Keys.{among}
 use Rattle.redis_model.specs.About.{keys_of}
 use Rattle.redis_model.specs.Limits.{IsName}
 use Rattle.lives_model.specs.Plans.{IsAsked, AreAsked, keys_of_each, keys_in}
-use Rattle.lives_model.specs.WrittenKeys.{among-append, either_passed}
+use Rattle.lives_model.specs.WrittenKeyLaws.{among-append, either_passed}
 
 -- a key of a request fits into a raw key
 pub name_is_key : (k : Bytes) → IsName k → IsTrue (is_key k)
