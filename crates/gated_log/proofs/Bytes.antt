@@ -2,19 +2,19 @@
 use Rattle.std.proofs.Common.{◌≡◌, ◌≢◌, ◌⊎◌, inl, inr, ℕ, ◌+◌, ◌<◌, ◌≤◌, ◌^◌, min, List, [], ◌∷◌, ◌++◌, length, get_or, take, drop, refl, sym, ◌∙◌, ap, subst, arith, append_assoc, length-append, take-append-drop}
 use Rattle.std.proofs.lemmas.List.{take_at, drop_at, drop_more, drop-drop, length-take-le}
 use Rattle.std.proofs.lemmas.Bool.{cases_eq}
-use Rattle.kv_outside.specs.Files.{Holds, Torn}
-use Rattle.kv_outside.specs.Told.{holds_at, torn_behind}
+use Rattle.kv_outside.specs.Files.{HasWritten, Torn}
+use Rattle.kv_outside.specs.ToldLaws.{holds_at, torn_behind}
 use Rattle.kv_base.specs.Fields.{text}
 use Rattle.record_body.specs.Framed.{framed}
 use Rattle.gated_log.specs.Gated.{records, gated, EndsAt, IsShut, IsTried, HasShutGate, HasNoShutGate}
-use Rattle.gated_log.specs.Records.{tail_at, gated-push, end_none, end_more, records_shut, small_records}
+use Rattle.gated_log.specs.RecordLaws.{tail_at, gated-push, end_none, end_more, records_shut, small_records}
 
 -- these bytes stand at this place
 pub record Written (at : ℕ) (bytes file : List ℕ) : Type 0 where
   pub behind : List ℕ
   pub is : drop at file ≡ bytes ++ behind
 
-pub held_written : (at : ℕ) (bytes d c : List ℕ) → at ≤ length d → Holds at bytes d c → Written at bytes c
+pub held_written : (at : ℕ) (bytes d c : List ℕ) → at ≤ length d → HasWritten at bytes d c → Written at bytes c
 held_written at bytes d c within holds =
     let front = take at d in
     let rest = drop (length bytes) (drop at d) in
@@ -106,7 +106,7 @@ closed_again end bodies body c tried written = record {
 pub end_within : (end n place : ℕ) (bodies : List (List ℕ)) (d : List ℕ) → EndsAt end bodies d → n ≡ length d → place ≡ min end n → place ≡ end
 end_within end n place bodies d ends is least = omega (arith, ends.at.place, ap length ends.is, length-append (gated bodies) ends.tail)
 
-pub closed_here : (end : ℕ) (bodies : List (List ℕ)) (d c : List ℕ) → EndsAt end bodies d → Holds end (0 ∷ []) d c → IsShut end bodies c
+pub closed_here : (end : ℕ) (bodies : List (List ℕ)) (d c : List ℕ) → EndsAt end bodies d → HasWritten end (0 ∷ []) d c → IsShut end bodies c
 closed_here end bodies d c ends holds = record {
   at = ends.at;
   gate = 0;
@@ -149,7 +149,7 @@ torn_end end bodies d c ends not_shut torn =
 
 -- ---- a new file
 
-pub made_shut : (d c : List ℕ) → d ≡ [] → Holds 0 (0 ∷ []) d c → IsShut 0 [] c
+pub made_shut : (d c : List ℕ) → d ≡ [] → HasWritten 0 (0 ∷ []) d c → IsShut 0 [] c
 unfolding gated
 made_shut d c empty holds = record { at = end_none; gate = 0; rest = []; closed = not_open 0 refl; is = holds_at 0 [] [] (0 ∷ []) d c empty refl holds }
 

@@ -2,12 +2,12 @@
 use Rattle.std.proofs.Common.{◌≡◌, ⊎_elim, ℕ, ◌<◌, ◌≤◌, List, length, Option, Some, None, IfSome, Result, Ok, Err, OnOk, OnErr, refl, sym, ◌∙◌, subst, arith}
 use Rattle.std.proofs.lemmas.Bool.{cases_lt}
 use Rattle.kv_base.specs.declared.name.FileName.{FileName}
-use Rattle.kv_outside.specs.Disk.{Disk, NothingNew, Changes, Touches, Agrees, Leaves, IsDurable}
-use Rattle.kv_outside.specs.Files.{Goes, Holds, Torn}
-use Rattle.kv_outside.specs.Told.{goes_keeps, told_given}
-use Rattle.kv_outside.specs.Runs.{goes_on_then, run_change, at_end, agrees_still}
+use Rattle.kv_outside.specs.Disk.{Disk, NothingNew, Changes, Touches, Agrees, CrashLeaves, IsDurable}
+use Rattle.kv_outside.specs.Files.{Goes, HasWritten, Torn}
+use Rattle.kv_outside.specs.ToldLaws.{goes_keeps, told_given}
+use Rattle.kv_outside.specs.RunLaws.{goes_on_then, run_change, at_end, agrees_still}
 use Rattle.gated_log.specs.States.{Shows}
-use Rattle.gated_log.specs.Steps.{Tries, Stores}
+use Rattle.gated_log.specs.Steps.{TriesAt, Stores}
 use Rattle.gated_log.proofs.Bytes.{Written, held_written}
 
 pub on_ok : {T E P : Type 0} (r : Result T E) → P → OnOk r P
@@ -51,32 +51,12 @@ change_then_nothing at step old mid new stays first second = record {
         same : mid.moment ≤ old.moment → mid.moment ≡ old.moment
         same le = omega (arith, le, first.goes_on.later)
 
--- two calls that change nothing
-pub nothing_then : (old mid new : Disk) → NothingNew old mid → NothingNew mid new → NothingNew old new
-nothing_then old mid new first second = record {
-  goes_on = goes_on_then old mid new first.goes_on second.goes_on;
-  since = λ k name c from to image. ⊎_elim
-      (λ (lt : mid.moment < k). since_mid name c (second.since k name c lt to image))
-      (λ (le : k ≤ mid.moment). first.since k name c from le (second.goes_on.past k name c le image))
-      (cases_lt mid.moment k);
-  reads = λ name. second.reads name ∙ first.reads name;
-}
-  where
-    since_mid : (name : FileName) (c : List ℕ) → mid.images mid.moment name c → old.images old.moment name c
-    since_mid name c image = ⊎_elim
-        (λ (lt : old.moment < mid.moment). first.since mid.moment name c lt (omega arith) image)
-        (λ (le : mid.moment ≤ old.moment). first.goes_on.past old.moment name c (omega arith) (subst (λ (k : ℕ). mid.images k name c) (same le) image))
-        (cases_lt old.moment mid.moment)
-      where
-        same : mid.moment ≤ old.moment → mid.moment ≡ old.moment
-        same le = omega (arith, le, first.goes_on.later)
-
 torn_stays : (at n : ℕ) (c : List ℕ) → Torn at n c c
 torn_stays at n c = record { before = refl; after = refl; no_shorter = omega arith; no_longer = omega arith }
 
 -- a write, and a sync after it
 pub write_and_sync : (at : ℕ) (bytes : List ℕ) (name : FileName) (old mid new : Disk) (held next now : Option (List ℕ)) → Goes (Torn at (length bytes)) held next → (Agrees old name held → Agrees mid name next)
-    → Changes name (Torn at (length bytes)) old mid → NothingNew mid new → now ≡ next → Tries at bytes name old new held now
+    → Changes name (Torn at (length bytes)) old mid → NothingNew mid new → now ≡ next → TriesAt at bytes name old new held now
 write_and_sync at bytes name old mid new held next now torn agrees change sync same = record {
   torn = subst (λ (o : Option (List ℕ)). Goes (Torn at (length bytes)) held o) (sym same) torn;
   agrees = λ before. agrees_still name mid new next now (sync.reads name) same (agrees before);
@@ -85,7 +65,7 @@ write_and_sync at bytes name old mid new held next now torn agrees change sync s
 
 -- one call that changes the file, from what each image has to what it may come to have
 pub run_into : (at : FileName) (step : List ℕ → List ℕ → Type 0) (old new : Disk) (P Q : List ℕ → Type 0) → Changes at step old new
-    → Leaves old at P → ((c : List ℕ) → P c → Q c) → ((d c : List ℕ) → P d → step d c → Q c) → Touches at old new Q
+    → CrashLeaves old at P → ((c : List ℕ) → P c → Q c) → ((d c : List ℕ) → P d → step d c → Q c) → Touches at old new Q
 run_into at step old new P Q call here stays next = record {
   goes_on = call.goes_on;
   own = λ k c from to image. ⊎_elim
@@ -97,7 +77,7 @@ run_into at step old new P Q call here stays next = record {
 }
 
 -- what is durable has what the held bytes have
-pub durable_has : (disk : Disk) (name : FileName) (held : Option (List ℕ)) (P : List ℕ → Type 0) → IsDurable disk name held → IfSome held P → Leaves disk name P
+pub durable_has : (disk : Disk) (name : FileName) (held : Option (List ℕ)) (P : List ℕ → Type 0) → IsDurable disk name held → IfSome held P → CrashLeaves disk name P
 durable_has disk name held P durable has = record { each = λ c image. subst (λ (o : Option (List ℕ)). IfSome o P) (durable.only c image) has }
 
 pub shows_named : (disk : Disk) (name after : FileName) (held : Option (List ℕ)) (P : List ℕ → Type 0) → after ≡ name → Shows disk name held P → Shows disk after held P
@@ -107,8 +87,8 @@ pub run_named : (name after : FileName) (old new : Disk) (P : List ℕ → Type 
 run_named name after old new P same run = subst (λ (n : FileName). Touches n old new P) same run
 
 -- what was written stands there, where the bytes are told
-pub told_written : (at : ℕ) (bytes : List ℕ) (held now : Option (List ℕ)) → IfSome held (λ d. at ≤ length d) → Goes (Holds at bytes) held now → IfSome now (Written at bytes)
-told_written at bytes held now within written = goes_keeps (Holds at bytes) (λ d. at ≤ length d) (Written at bytes) (λ d c le holds. held_written at bytes d c le holds) held now written within
+pub told_written : (at : ℕ) (bytes : List ℕ) (held now : Option (List ℕ)) → IfSome held (λ d. at ≤ length d) → Goes (HasWritten at bytes) held now → IfSome now (Written at bytes)
+told_written at bytes held now within written = goes_keeps (HasWritten at bytes) (λ d. at ≤ length d) (Written at bytes) (λ d c le holds. held_written at bytes d c le holds) held now written within
 
 pub told_both : (P Q R : List ℕ → Type 0) → ((c : List ℕ) → P c → Q c → R c) → (held : Option (List ℕ)) → IfSome held P → IfSome held Q → IfSome held R
 told_both P Q R leads None p q = tt
@@ -117,7 +97,7 @@ told_both P Q R leads (Some c) p q = leads c p q
 -- A store that was tried, where each step keeps P; and one that is done, which leads from P, with the bytes at their place,
 -- to Q. Of what the log tells, and of what the disk has.
 module _ (at : ℕ) (bytes : List ℕ) (name : FileName) (old new : Disk) (held now : Option (List ℕ)) (P : List ℕ → Type 0)
-    (tries : Tries at bytes name old new held now) (keeps : (d c : List ℕ) → P d → Torn at (length bytes) d c → P c) where
+    (tries : TriesAt at bytes name old new held now) (keeps : (d c : List ℕ) → P d → Torn at (length bytes) d c → P c) where
   pub tries_tell : IfSome held P → IfSome now P
   tries_tell told = goes_keeps (Torn at (length bytes)) P P keeps held now tries.torn told
 

@@ -3,11 +3,11 @@ use Rattle.std.proofs.Common.{◌≡◌, ℕ, ◌+◌, ◌≤◌, min, List, ◌
 use Rattle.std.proofs.lemmas.List.{length-take-le, take-take, take-append-le}
 use Rattle.std.proofs.Math.Seq.{take-append-add, take-add, take-length}
 use Rattle.kv_base.specs.declared.name.FileName.{FileName}
-use Rattle.kv_outside.specs.Disk.{Disk, NothingNew, Leaves, IsDurable}
+use Rattle.kv_outside.specs.Disk.{Disk, NothingNew, CrashLeaves, IsDurable}
 use Rattle.kv_outside.specs.Files.{ReadsFrom}
-use Rattle.kv_outside.specs.Told.{told_given}
-use Rattle.kv_outside.specs.Runs.{run_nothing, at_end}
-use Rattle.gated_log.proofs.Calls.{nothing_then}
+use Rattle.kv_outside.specs.ToldLaws.{told_given}
+use Rattle.kv_outside.specs.RunLaws.{run_nothing, at_end}
+use Rattle.kv_outside.specs.RunLaws.{nothing_then}
 
 -- so many bytes were read into the buffer, from the file's start
 pub record HasRead (done : ℕ) (buffer : List ℕ) (held : Option (List ℕ)) (old new : Disk) (before now : ℕ) : Type 0 where
@@ -54,11 +54,11 @@ whole_read n count buffer new found held long sized filled is = elim held as (λ
     ] long filled
 
 -- a crash leaves what was read
-pub leaves_read : (disk : Disk) (name : FileName) (held : Option (List ℕ)) (found : List ℕ) → IfSome held (λ file. found ≡ file) → Leaves disk name (λ c. held ≡ Some c) → Leaves disk name (λ c. c ≡ found)
+pub leaves_read : (disk : Disk) (name : FileName) (held : Option (List ℕ)) (found : List ℕ) → IfSome held (λ file. found ≡ file) → CrashLeaves disk name (λ c. held ≡ Some c) → CrashLeaves disk name (λ c. c ≡ found)
 leaves_read disk name held found told leaves = record { each = λ c image. sym (told_given (λ file. found ≡ file) held c (leaves.each c image) told) }
 
 -- what was durable is so still
-pub still_durable : (name : FileName) (old new : Disk) (held : Option (List ℕ)) → IsDurable old name held → NothingNew old new → Leaves new name (λ c. held ≡ Some c)
+pub still_durable : (name : FileName) (old new : Disk) (held : Option (List ℕ)) → IsDurable old name held → NothingNew old new → CrashLeaves new name (λ c. held ≡ Some c)
 still_durable name old new held durable call = at_end name old new (λ c. held ≡ Some c) (run_nothing name old new (λ c. held ≡ Some c) call (record { each = λ c image. durable.only c image }))
 
 -- the buffer's front, however the buffer was borrowed

@@ -6,7 +6,7 @@ use Rattle.std.proofs.lemmas.Nat.{be_bytes_4}
 use Rattle.kv_base.specs.Fields.{u32, text}
 use Rattle.record_body.specs.Framed.{number_of}
 use Rattle.gated_log.specs.Gated.{records}
-use Rattle.gated_log.specs.Records.{records_none, records_shut, records_cut, records_open}
+use Rattle.gated_log.specs.RecordLaws.{records_none, records_shut, records_cut, records_open}
 use Rattle.gated_log.specs.Walk.{StandsAt}
 
 -- the number in a head

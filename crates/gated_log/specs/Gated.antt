@@ -26,20 +26,20 @@ AllFit [] = Unit {0}
 AllFit (body ∷ bodies) = (length body < 2 ^ 32) × AllFit bodies
 
 -- the place behind these records
-pub record IsEnd (end : ℕ) (bodies : List (List ℕ)) : Type 0 where
+pub record IsEndOfRecords (end : ℕ) (bodies : List (List ℕ)) : Type 0 where
   pub fits : AllFit bodies
   pub place : end ≡ length (gated bodies)
 
 -- these records up to this place, and there no open one
 pub record EndsAt (end : ℕ) (bodies : List (List ℕ)) (file : List ℕ) : Type 0 where
-  pub at : IsEnd end bodies
+  pub at : IsEndOfRecords end bodies
   pub tail : List ℕ
   pub none : records tail ≡ []
   pub is : file ≡ gated bodies ++ tail
 
 -- these records up to this place, and there a gate that is not open
 pub record IsShut (end : ℕ) (bodies : List (List ℕ)) (file : List ℕ) : Type 0 where
-  pub at : IsEnd end bodies
+  pub at : IsEndOfRecords end bodies
   pub gate : ℕ
   pub rest : List ℕ
   pub closed : gate ≢ 1
@@ -47,7 +47,7 @@ pub record IsShut (end : ℕ) (bodies : List (List ℕ)) (file : List ℕ) : Typ
 
 -- these records up to this place, there some gate, and behind it this body whole and a closed gate
 pub record IsTried (end : ℕ) (bodies : List (List ℕ)) (body file : List ℕ) : Type 0 where
-  pub at : IsEnd end bodies
+  pub at : IsEndOfRecords end bodies
   pub fits : length body < 2 ^ 32
   pub gate : ℕ
   pub rest : List ℕ
@@ -65,5 +65,5 @@ abbrev pub HasNoShutGate : ℕ → List ℕ → Type 0
 HasNoShutGate at file = (drop at file ≡ []) ⊎ ((rest : List ℕ) × (drop at file ≡ 1 ∷ rest))
 
 -- the records are these, or these and one more
-abbrev pub IsBeforeOrAfter : List (List ℕ) → List ℕ → List ℕ → Type 0
-IsBeforeOrAfter bodies body file = (records file ≡ bodies) ⊎ (records file ≡ bodies ++ body ∷ [])
+abbrev pub HasRecordsOrOneMore : List (List ℕ) → List ℕ → List ℕ → Type 0
+HasRecordsOrOneMore bodies body file = (records file ≡ bodies) ⊎ (records file ≡ bodies ++ body ∷ [])

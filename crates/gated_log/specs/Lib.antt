@@ -1,8 +1,9 @@
 pub mod Faults
 pub mod Gated
 pub mod LogLaws
-pub mod Records
+pub mod RecordLaws
 pub mod States
 pub mod Steps
-pub mod Still
+pub mod StillLaws
 pub mod Walk
+pub mod WalkLaws

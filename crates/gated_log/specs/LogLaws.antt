@@ -1,9 +1,9 @@
 -- What a log tells, and how that meets what the disk has of it.
 use Rattle.std.proofs.Common.{◌≡◌, ℕ, List, Option, Some, None, IfSome}
 use Rattle.kv_outside.specs.Disk.{Disk, Agrees, IsDurable}
-use Rattle.kv_outside.specs.Told.{told_given, told_is, told_leads}
+use Rattle.kv_outside.specs.ToldLaws.{told_given, told_is, told_leads}
 use Rattle.gated_log.specs.Gated.{records, EndsAt, IsShut, HasShutGate}
-use Rattle.gated_log.specs.Records.{shut_here, shut_records}
+use Rattle.gated_log.specs.RecordLaws.{shut_here, shut_records}
 use Rattle.gated_log.specs.States.{LogState, Tells, Rests}
 
 -- the records that a log tells

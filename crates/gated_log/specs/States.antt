@@ -2,7 +2,7 @@
 -- other: several values of `Files` may share a disk that none of them tells, and their logs tell what they hold.
 use Rattle.std.specs.Prelude.{ℕ, ◌<◌, ◌≤◌, ◌^◌, Bool, true, false, List, length, Option, IfSome}
 use Rattle.kv_base.specs.declared.name.FileName.{FileName}
-use Rattle.kv_outside.specs.Disk.{Disk, Agrees, Leaves}
+use Rattle.kv_outside.specs.Disk.{Disk, Agrees, CrashLeaves}
 use Rattle.gated_log.specs.Gated.{IsShut, IsTried}
 
 -- What contracts see of an open log.
@@ -37,7 +37,7 @@ TellsLeft false log bodies body = Tells log bodies
 -- does not tell, nothing is said.
 pub record Shows (disk : Disk) (name : FileName) (held : Option (List ℕ)) (P : List ℕ → Type 0) : Type 0 where
   pub agrees : Agrees disk name held
-  pub images : Leaves disk name P
+  pub images : CrashLeaves disk name P
 
 -- the log has these records on the disk, and behind them a gate that is not open
 abbrev pub Rests : Disk → LogState → List (List ℕ) → Type 0
@@ -53,6 +53,6 @@ IsLeft true disk log bodies body = Wavers disk log bodies body
 IsLeft false disk log bodies body = Rests disk log bodies
 
 -- the gate behind the last record is in the file
-pub record IsSound (end : ℕ) (held : Option (List ℕ)) : Type 0 where
+pub record HasGate (end : ℕ) (held : Option (List ℕ)) : Type 0 where
   pub small : end ≤ 2 ^ 63
   pub in_range : IfSome held (λ bytes. end < length bytes)

@@ -17,4 +17,4 @@ mod steps;
 
 pub use log::GatedLog;
 pub use read::{ReadFault, read_file};
-pub use record::{Record, next_record};
+pub use record::{GatedRecord, next_record};

@@ -1,7 +1,7 @@
 ghost use Rattle.std.specs.Prelude.{◌≡◌, ◌≤◌, ◌<◌, ◌+◌, [], ◌∷◌, ◌++◌, true, false, List, ℕ, length, Some, IfOk, OnOk, OnErr, IfSome};
 ghost use Rattle.kv_outside.specs.Causes.{HasCause};
-ghost use Rattle.kv_outside.specs.Disk.{Agrees, IsDurable, Leaves, Touches};
-ghost use Rattle.gated_log.specs.Gated.{records, EndsAt, HasShutGate, IsBeforeOrAfter};
+ghost use Rattle.kv_outside.specs.Disk.{Agrees, IsDurable, CrashLeaves, Touches};
+ghost use Rattle.gated_log.specs.Gated.{records, EndsAt, HasShutGate, HasRecordsOrOneMore};
 ghost use Rattle.gated_log.specs.States.{Rests, Wavers, IsLeft, Tells, TellsTried, TellsLeft};
 
 use crate::steps::{OPEN, SHUT, close_end, open_empty, open_synced, store};
@@ -21,13 +21,13 @@ pub struct GatedLog<F: Files> {
 }
 
 impl<F: Files> Model for GatedLog<F> {
-    ghost use Rattle.gated_log.specs.States.{LogState, IsSound};
+    ghost use Rattle.gated_log.specs.States.{LogState, HasGate};
 
     ghost Value = { LogState };
 
     ghost view = { λ g. record { name = F.name_of g.log; held = F.bytes_of g.log; end = g.end; unsure = g.unsure } };
 
-    ghost invariant = { λ g. IsSound g.end (F.bytes_of g.log) };
+    ghost invariant = { λ g. HasGate g.end (F.bytes_of g.log) };
 }
 
 impl<F: Files> GatedLog<F> {
@@ -41,7 +41,7 @@ impl<F: Files> GatedLog<F> {
         ensures end { IfOk result (λ log. log.end ≡ 0) }
         ensures sure { IfOk result (λ log. log.unsure ≡ false) }
         ensures name { IfOk result (λ log. log.name ≡ name) }
-        ensures any_moment { Leaves (F.disk files.old) name (λ c. length c ≤ 1)
+        ensures any_moment { CrashLeaves (F.disk files.old) name (λ c. length c ≤ 1)
             → Touches name (F.disk files.old) (F.disk files.new) (λ c. (length c ≤ 1) × (records c ≡ [])) }
         ensures cause { HasCause (F.faults files.old) (F.faults files.new) result }
     {
@@ -70,11 +70,11 @@ impl<F: Files> GatedLog<F> {
             → (F.disk files.old).reads name ≡ Some bytes → EndsAt end bodies bytes → Tells log bodies) }
         // Records that each crash leaves up to this end are what it leaves from then on.
         ensures rests { IfOk result (λ log. (bodies : List (List ℕ))
-            → Leaves (F.disk files.old) name (EndsAt end bodies) → Rests (F.disk files.new) log bodies) }
+            → CrashLeaves (F.disk files.old) name (EndsAt end bodies) → Rests (F.disk files.new) log bodies) }
         ensures end { IfOk result (λ log. log.end ≤ end) }
         ensures sure { IfOk result (λ log. log.unsure ≡ false) }
         ensures name { IfOk result (λ log. log.name ≡ name) }
-        ensures any_moment { (bodies : List (List ℕ)) → Leaves (F.disk files.old) name (EndsAt end bodies)
+        ensures any_moment { (bodies : List (List ℕ)) → CrashLeaves (F.disk files.old) name (EndsAt end bodies)
             → Touches name (F.disk files.old) (F.disk files.new) (EndsAt end bodies) }
         ensures cause { HasCause (F.faults files.old) (F.faults files.new) result }
     {
@@ -108,7 +108,7 @@ impl<F: Files> GatedLog<F> {
 
         // At every moment of the call each image has the records from before it, or those and this one.
         ensures any_moment { (bodies : List (List ℕ)) → Rests (F.disk files.old) self.old bodies
-            → Touches self.old.name (F.disk files.old) (F.disk files.new) (IsBeforeOrAfter bodies body.now) }
+            → Touches self.old.name (F.disk files.old) (F.disk files.new) (HasRecordsOrOneMore bodies body.now) }
         // Where the gate was not tried, no image has this one.
         ensures not_tried { OnErr result (self.new.unsure ≡ false → (bodies : List (List ℕ)) → Rests (F.disk files.old) self.old bodies
             → Touches self.old.name (F.disk files.old) (F.disk files.new) (λ c. records c ≡ bodies)) }
@@ -143,7 +143,7 @@ impl<F: Files> GatedLog<F> {
         // At every moment of the call each image has the records, or those and the one that was tried.
         ensures any_moment { (bodies : List (List ℕ)) (body : List ℕ)
             → IsLeft self.old.unsure (F.disk files.old) self.old bodies body
-            → Touches self.old.name (F.disk files.old) (F.disk files.new) (IsBeforeOrAfter bodies body) }
+            → Touches self.old.name (F.disk files.old) (F.disk files.new) (HasRecordsOrOneMore bodies body) }
         ensures cause { HasCause (F.faults files.old) (F.faults files.new) result }
     {
         if self.unsure {

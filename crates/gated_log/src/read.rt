@@ -1,6 +1,6 @@
 ghost use Rattle.std.specs.Prelude.{◌≡◌, ◌≤◌, ◌<◌, List, ℕ, length, take, min, Some, IfOk, IfSome, IsErrOf};
 ghost use Rattle.kv_outside.specs.Causes.{HasCause, Rose};
-ghost use Rattle.kv_outside.specs.Disk.{NothingNew, Leaves};
+ghost use Rattle.kv_outside.specs.Disk.{NothingNew, CrashLeaves};
 
 use crate::steps::open_synced;
 use kv_base::{FileName, StoreFault};
@@ -82,7 +82,7 @@ pub fn read_file<F: Files>(
 ) -> Result<Vec<u8>, ReadFault>
     ensures bytes { IfOk result (λ found. (bytes : List ℕ) → (F.disk files.old).reads name ≡ Some bytes → found.items ≡ bytes) }
     // From then on a crash leaves these bytes.
-    ensures durable { IfOk result (λ found. Leaves (F.disk files.new) name (λ c. c ≡ found.items)) }
+    ensures durable { IfOk result (λ found. CrashLeaves (F.disk files.new) name (λ c. c ≡ found.items)) }
     ensures disk { NothingNew (F.disk files.old) (F.disk files.new) }
     ensures later { F.faults files.old ≤ F.faults files.new }
     ensures failed { IsErrOf result ReadFault.Failed → Rose (F.faults files.old) (F.faults files.new) }

@@ -7,7 +7,7 @@ use crate::steps::OPEN;
 
 /// An open record in a file's bytes.
 #[derive(Clone, Copy, Debug)]
-pub struct Record<'a> {
+pub struct GatedRecord<'a> {
     /// The body.
     pub body: &'a [u8],
     /// The place behind it, where the next record's gate stands.
@@ -27,7 +27,7 @@ fn body_length(head: &[u8]) -> usize
 }
 
 /// The open record at this place, where one is: the gate is 01, and the body is whole in the file.
-pub fn next_record(bytes: &[u8], place: usize) -> Option<Record<'_>>
+pub fn next_record(bytes: &[u8], place: usize) -> Option<GatedRecord<'_>>
     requires { place ≤ length bytes.now }
     ensures stands { IfSome result (λ found. StandsAt place found.next found.body.now bytes.now) }
     ensures within { IfSome result (λ found. found.next ≤ length bytes.now) }
@@ -45,57 +45,8 @@ pub fn next_record(bytes: &[u8], place: usize) -> Option<Record<'_>>
         return None;
     }
     let (body, _) = behind.split_at(length);
-    Some(Record {
+    Some(GatedRecord {
         body,
         next: place + HEAD + length,
     })
-}
-
-#[cfg(test)]
-mod tests {
-    use super::*;
-    use record_body::BodyWriter;
-    use std::test::Fail;
-
-    #[test]
-    fn walks_a_small_log(rt: HostRuntime) -> Result<(), Fail> {
-        let log = b"\x01\0\0\0\x03abc\x01\0\0\0\0\0\0\0\0\x01x".as_slice();
-        let first = next_record(log, 0).ok_or("a record")?;
-        assert_eq!(rt; first.body, b"abc".as_slice());
-        assert_eq!(rt; first.next, 8);
-        let second = next_record(log, 8).ok_or("a record")?;
-        assert_eq!(rt; second.body, b"".as_slice());
-        assert_eq!(rt; second.next, 13);
-        assert!(rt; next_record(log, 13).is_none(), "the gate is closed");
-        assert!(rt; next_record(log, 19).is_none(), "the file has ended");
-
-        assert!(rt; next_record(b"", 0).is_none());
-        assert!(rt;
-            next_record(b"\x01\0\0\0", 0).is_none(),
-            "the length is cut"
-        );
-        assert!(rt;
-            next_record(b"\x01\0\0\0\x04abc", 0).is_none(),
-            "the body is cut"
-        );
-        assert!(rt;
-            next_record(b"\x02\0\0\0\0\0", 0).is_none(),
-            "any gate but 01 is closed"
-        );
-        Ok(())
-    }
-
-    #[test]
-    fn a_framed_body_behind_an_open_gate_is_a_record(rt: HostRuntime) -> Result<(), Fail> {
-        let mut writer = BodyWriter::new(rt.alloc())?;
-        writer.put(b"key and value")?;
-        let body = writer.finish()?;
-        let mut file = vec![in rt.alloc(); OPEN]?;
-        file.extend_from_slice(body.framed())?;
-        let found = next_record(&file, 0).ok_or("a record")?;
-        assert_eq!(rt; found.body, body.bytes());
-        assert_eq!(rt; found.next, 18);
-        assert!(rt; next_record(&file, found.next).is_none());
-        Ok(())
-    }
 }

@@ -1,10 +1,10 @@
 // What a gated log does with its file, each as one step that keeps the records.
 ghost use Rattle.std.specs.Prelude.{◌≡◌, ◌≤◌, ◌<◌, ◌+◌, ◌^◌, [], ◌∷◌, ◌++◌, List, ℕ, length, Option, IfOk, OnOk, IfSome, MatchBool};
 ghost use Rattle.kv_outside.specs.Causes.{HasCause};
-ghost use Rattle.kv_outside.specs.Disk.{Touches, NothingNew, Agrees, Leaves, IsDurable};
+ghost use Rattle.kv_outside.specs.Disk.{Touches, NothingNew, Agrees, CrashLeaves, IsDurable};
 ghost use Rattle.gated_log.specs.Gated.{EndsAt, IsShut, HasShutGate, HasNoShutGate};
 ghost use Rattle.gated_log.specs.States.{Shows};
-ghost use Rattle.gated_log.specs.Steps.{Tries, Stores};
+ghost use Rattle.gated_log.specs.Steps.{TriesAt, Stores};
 
 use kv_base::FileName;
 use kv_outside::{Failed, Files};
@@ -23,7 +23,7 @@ pub(crate) fn store<F: Files>(
     bytes: &[u8],
 ) -> Result<(), Failed>
     requires { IfSome (F.bytes_of log.old) (λ d. at ≤ length d) }
-    ensures tried { Tries at bytes.now (F.name_of log.old) (F.disk files.old) (F.disk files.new) (F.bytes_of log.old) (F.bytes_of log.new) }
+    ensures tried { TriesAt at bytes.now (F.name_of log.old) (F.disk files.old) (F.disk files.new) (F.bytes_of log.old) (F.bytes_of log.new) }
     ensures stored { OnOk result (Stores at bytes.now (F.name_of log.old) (F.disk files.old) (F.disk files.new) (F.bytes_of log.old) (F.bytes_of log.new)) }
     ensures limit { OnOk result (at + length bytes.now ≤ 2 ^ 63) }
     ensures name { F.name_of log.new ≡ F.name_of log.old }
@@ -52,7 +52,7 @@ pub(crate) fn open_empty<F: Files>(files: &mut F, name: FileName) -> Result<F::L
     ensures name { IfOk result (λ log. F.name_of log ≡ name) }
     ensures empty { IfOk result (λ log. IfSome (F.bytes_of log) (λ c. c ≡ [])) }
     ensures agrees { IfOk result (λ log. Agrees (F.disk files.new) name (F.bytes_of log)) }
-    ensures any_moment { Leaves (F.disk files.old) name (λ c. length c ≤ 1)
+    ensures any_moment { CrashLeaves (F.disk files.old) name (λ c. length c ≤ 1)
         → Touches name (F.disk files.old) (F.disk files.new) (λ c. length c ≤ 1) }
     ensures cause { HasCause (F.faults files.old) (F.faults files.new) result }
 {
@@ -79,7 +79,7 @@ fn is_shut<F: Files>(files: &mut F, log: &F::Log, at: u64) -> Result<bool, Faile
 /// written. It answers the place of that gate: the end, or the file's length where that is less.
 pub(crate) fn close_end<F: Files>(files: &mut F, log: &mut F::Log, end: u64) -> Result<u64, Failed>
     ensures any_moment { (bodies : List (List ℕ)) → IsDurable (F.disk files.old) (F.name_of log.old) (F.bytes_of log.old)
-        → Leaves (F.disk files.old) (F.name_of log.old) (EndsAt end bodies)
+        → CrashLeaves (F.disk files.old) (F.name_of log.old) (EndsAt end bodies)
         → Touches (F.name_of log.old) (F.disk files.old) (F.disk files.new) (EndsAt end bodies) }
     ensures shut { IfOk result (λ place. IfSome (F.bytes_of log.new) (HasShutGate place)) }
     ensures told { IfOk result (λ place. (bodies : List (List ℕ)) → IfSome (F.bytes_of log.old) (EndsAt end bodies)
@@ -92,7 +92,7 @@ pub(crate) fn close_end<F: Files>(files: &mut F, log: &mut F::Log, end: u64) -> 
     ensures rests { IfOk result (λ place. (bodies : List (List ℕ))
         → Agrees (F.disk files.old) (F.name_of log.old) (F.bytes_of log.old)
         → IsDurable (F.disk files.old) (F.name_of log.old) (F.bytes_of log.old)
-        → Leaves (F.disk files.old) (F.name_of log.old) (EndsAt end bodies)
+        → CrashLeaves (F.disk files.old) (F.name_of log.old) (EndsAt end bodies)
         → Shows (F.disk files.new) (F.name_of log.old) (F.bytes_of log.new) (IsShut place bodies)) }
     ensures place { IfOk result (λ place. place ≤ end) }
     ensures small { IfOk result (λ place. place ≤ 2 ^ 63) }

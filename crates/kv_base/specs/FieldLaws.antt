@@ -7,7 +7,7 @@ use Rattle.std.proofs.lemmas.Nat.{from_be_bytes-to_be_bytes_4, from_be_bytes-to_
 use Rattle.std.specs.Prelude.{Option, Some, None, nat_le, option_and_then}
 use Rattle.std.specs.Int.{from_be_bytes, w32, w64}
 use Rattle.kv_base.specs.Map.{Bytes, same, same_is, same_itself}
-use Rattle.kv_base.specs.Inversions.{same_some}
+use Rattle.kv_base.specs.InversionLaws.{same_some}
 use Rattle.kv_base.specs.Fields.{u32, u64, text, read_u32, read_u64, read_bytes, read_text}
 
 pub length-u32 : (n : ℕ) → length (u32 n) ≡ 4

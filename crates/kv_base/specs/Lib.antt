@@ -1,13 +1,15 @@
 pub mod Digits
 pub mod FieldLaws
 pub mod Fields
-pub mod FormatExamples
+pub mod FormatExampleLaws
 pub mod Hash
-pub mod Inversions
+pub mod InversionLaws
+pub mod TestLaws
 pub mod Map
 pub mod MetaValueLaws
 pub mod MetaValues
 pub mod Name
+pub mod NameLaws
 pub mod Number
 pub mod RawKeyLaws
 pub mod RawKeys

@@ -7,7 +7,7 @@ use Rattle.kv_base.specs.declared.kind.Kind.TheVariants.{Hash, Set, ZSet}
 use Rattle.kv_base.specs.Map.{Bytes, kept}
 use Rattle.kv_base.specs.Fields.{u64, read_u64}
 use Rattle.kv_base.specs.FieldLaws.{u64_is_read, only_u64_is_read}
-use Rattle.kv_base.specs.Inversions.{same_some, and_then_is, map_is, if_is, kept_is, both_first, both_second, number_is}
+use Rattle.kv_base.specs.InversionLaws.{same_some, and_then_is, map_is, if_is, kept_is, both_first, both_second, number_is}
 use Rattle.kv_base.specs.RawKeys.{is_version}
 use Rattle.kv_base.specs.MetaValues.{MetaValue, StringValue, LifeValue, ListValue, LifeNumbers, is_deadline, is_payload, is_size, is_meta_within, string_flags, list_flags, kind_flags, meta_text, kind_from, read_life_numbers, is_empty, life_with, list_ends, list_with, meta_parts, read_meta}
 

@@ -7,7 +7,7 @@ use Rattle.kv_base.specs.Map.{Bytes, kept}
 use Rattle.kv_base.specs.Number.{fits}
 use Rattle.kv_base.specs.Fields.{u64, text, read_u64, read_text}
 use Rattle.kv_base.specs.FieldLaws.{u64_is_read, text_is_read, only_u64_is_read, only_text_is_read}
-use Rattle.kv_base.specs.Inversions.{same_some, and_then_is, map_is, if_is, kept_is, both_first, both_second, number_is}
+use Rattle.kv_base.specs.InversionLaws.{same_some, and_then_is, map_is, if_is, kept_is, both_first, both_second, number_is}
 use Rattle.kv_base.specs.RawKeys.{RawKey, MetaKey, ElementKey, ScoreKey, LifeAndRest, is_key, is_version, meta_space, element_space, score_space, is_raw_within, life_prefix, score_number, raw_text, read_life, version_behind, score_from, element_of, score_of, raw_parts, read_raw, IsOfLife}
 
 -- ---- scores

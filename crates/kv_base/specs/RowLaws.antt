@@ -6,7 +6,7 @@ use Rattle.kv_base.specs.Map.{Bytes}
 use Rattle.kv_base.specs.Number.{fits}
 use Rattle.kv_base.specs.Fields.{u64, text}
 use Rattle.kv_base.specs.FieldLaws.{length-u64, length-text}
-use Rattle.kv_base.specs.Inversions.{both_first, both_second}
+use Rattle.kv_base.specs.InversionLaws.{both_first, both_second}
 use Rattle.kv_base.specs.RawKeys.{RawKey, MetaKey, ElementKey, ScoreKey, is_key, is_version, score_number, is_raw_within, raw_text, read_raw, is_raw_text}
 use Rattle.kv_base.specs.RawKeyLaws.{only_raw_is_read}
 use Rattle.kv_base.specs.MetaValues.{MetaValue, StringValue, LifeValue, ListValue, is_deadline, is_payload, is_score, is_empty, is_meta_within, meta_text, read_meta, is_value_at, is_value_of, is_value_text}

@@ -30,17 +30,3 @@ pub fn stripe(key: &[u8]) -> u8
 {
     (fnv1a(OFFSET, key) % STRIPES) as u8
 }
-
-#[cfg(test)]
-mod tests {
-    use super::*;
-
-    #[test]
-    fn hashes(rt: HostRuntime) {
-        assert_eq!(rt; fnv1a(2166136261, b""), 0x811c9dc5);
-        assert_eq!(rt; fnv1a(2166136261, b"a"), 0xe40c292c);
-        assert_eq!(rt; fnv1a(2166136261, b"foobar"), 0xbf9cf968);
-        assert_eq!(rt; stripe(b"a"), 12);
-        assert_eq!(rt; stripe(b"b"), 5);
-    }
-}

@@ -64,28 +64,3 @@ impl Key {
         blob
     }
 }
-
-#[cfg(test)]
-mod tests {
-    use super::*;
-    use std::test::Fail;
-
-    #[test]
-    fn copies_and_keys(rt: HostRuntime) -> Result<(), Fail> {
-        let blob = Blob::copy(rt.alloc(), b"user:1")?;
-        let copy = blob.try_copy(rt.alloc())?;
-        assert_eq!(rt; copy.bytes(), b"user:1".as_slice());
-        assert!(rt; copy == blob);
-        assert!(rt; copy != Blob::copy(rt.alloc(), b"user:2")?);
-
-        let key = Key::new(blob)?;
-        assert_eq!(rt; key.bytes(), b"user:1".as_slice());
-        assert!(rt; key.into_blob() == copy);
-
-        let longest = Key::new(Blob::from_vec(vec![in rt.alloc(); 0; 65535]?))?;
-        assert_eq!(rt; longest.bytes().len(), 65535);
-        let longer = Blob::from_vec(vec![in rt.alloc(); 0; 65536]?);
-        assert!(rt; Key::new(longer).is_err());
-        Ok(())
-    }
-}

@@ -189,32 +189,3 @@ fn is_life(expire: u64, version: u64, size: u64) -> bool
 {
     expire <= MAX_DEADLINE && version < VERSIONS && 1 <= size && size < SIZES
 }
-
-#[cfg(test)]
-mod tests {
-    use super::*;
-
-    #[test]
-    fn tells_values(rt: HostRuntime) {
-        let metadata = b"\x6D\x00a".as_slice();
-        let field = b"\x73\x00\x00\x00\x00\x01a\x00\x00\x00\x00\x00\x00\x08\x00f".as_slice();
-        let least =
-            b"\x7A\x00\x00\x00\x00\x01a\x00\x00\x00\x00\x00\x00\x08\x00\x7F\xE0\x00\x00\x00\x00\x00\x00m".as_slice();
-        let less =
-            b"\x7A\x00\x00\x00\x00\x01a\x00\x00\x00\x00\x00\x00\x08\x00\x7F\xDF\xFF\xFF\xFF\xFF\xFF\xFFm".as_slice();
-        let string = b"\x81\x00\x00\x00\x00\x00\x00\x00\x001".as_slice();
-        let set_of_3 =
-            b"\x84\x00\x00\x00\x00\x00\x00\x00\x00\x00\x00\x00\x00\x00\x00\x08\x00\x00\x00\x00\x00\x00\x00\x00\x03".as_slice();
-        let set_of_0 =
-            b"\x84\x00\x00\x00\x00\x00\x00\x00\x00\x00\x00\x00\x00\x00\x00\x08\x00\x00\x00\x00\x00\x00\x00\x00\x00".as_slice();
-        assert!(rt; is_value(metadata, string));
-        assert!(rt; is_value(metadata, set_of_3));
-        assert!(rt; !is_value(metadata, set_of_0));
-        assert!(rt; !is_value(metadata, b"1"));
-        assert!(rt; is_value(field, b"1"));
-        assert!(rt; is_value(least, b""));
-        assert!(rt; !is_value(least, b"1"));
-        assert!(rt; !is_value(less, b""));
-        assert!(rt; !is_value(b"m", string));
-    }
-}

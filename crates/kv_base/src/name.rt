@@ -37,18 +37,3 @@ impl FileName {
         }
     }
 }
-
-#[cfg(test)]
-mod tests {
-    use super::*;
-
-    #[test]
-    fn tells_names_apart(rt: HostRuntime) {
-        let table = FileName::Table(TableId { run: 7, part: 1 });
-        assert!(rt; table.is(table));
-        assert!(rt; !table.is(FileName::Table(TableId { run: 7, part: 0 })));
-        assert!(rt; FileName::Segment(3).is(FileName::Segment(3)));
-        assert!(rt; !FileName::Segment(3).is(FileName::Segment(4)));
-        assert!(rt; !FileName::SlotA.is(FileName::SlotB));
-    }
-}

@@ -34,16 +34,3 @@ impl PathText {
         self.text.as_str()
     }
 }
-
-#[cfg(test)]
-mod tests {
-    use super::*;
-    use std::test::Fail;
-
-    #[test]
-    fn keeps_its_text(rt: HostRuntime) -> Result<(), Fail> {
-        let path = PathText::new(rt.alloc(), "/srv/store")?;
-        assert_eq!(rt; path.text(), "/srv/store");
-        Ok(())
-    }
-}

@@ -51,22 +51,3 @@ impl RowRef<'_> {
         })
     }
 }
-
-#[cfg(test)]
-mod tests {
-    use super::*;
-
-    #[test]
-    fn a_copy_has_its_parts(rt: HostRuntime) -> Result<(), NoMem> {
-        let put = RowRef {
-            raw: b"raw",
-            seq: 7,
-            value: Some(b"value"),
-        };
-        let copy = put.copy(rt.alloc())?;
-        assert_eq!(rt; copy.by_ref().raw, b"raw".as_slice());
-        assert_eq!(rt; copy.seq, 7);
-        assert_eq!(rt; copy.by_ref().value, Some(b"value".as_slice()));
-        Ok(())
-    }
-}

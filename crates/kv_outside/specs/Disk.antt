@@ -23,7 +23,7 @@ pub record Agrees (disk : Disk) (name : FileName) (held : Option (List ℕ)) : T
   pub told : (bytes : List ℕ) → disk.reads name ≡ Some bytes → held ≡ Some bytes
 
 -- each image that a crash may leave of this file now has P
-pub record Leaves (disk : Disk) (name : FileName) (P : List ℕ → Type 0) : Type 0 where
+pub record CrashLeaves (disk : Disk) (name : FileName) (P : List ℕ → Type 0) : Type 0 where
   pub each : (c : List ℕ) → disk.images disk.moment name c → P c
 
 -- a crash now leaves what the log holds
@@ -70,6 +70,3 @@ pub record Always (old new : Disk) (P : (FileName → List ℕ) → Type 0) : Ty
 
 abbrev pub untold : Disk
 untold = record { moment = 0; reads = λ name. None; images = λ k name c. ⊥ }
-
-pub untold_law : (name : FileName) (bytes : List ℕ) → untold.reads name ≡ Some bytes → untold.images untold.moment name bytes
-untold_law name bytes is = absurd (cc)

@@ -2,8 +2,8 @@
 use Rattle.std.specs.Prelude.{◌≡◌, ◌⊎◌, ℕ, ◌+◌, ◌-◌, ◌≤◌, max, min, List, [], ◌++◌, length, take, drop, Option, Some, None}
 
 -- after a write that is done: these bytes at this place, the same elsewhere
-abbrev pub Holds : ℕ → List ℕ → List ℕ → List ℕ → Type 0
-Holds at bytes old new = new ≡ take at old ++ bytes ++ drop (at + length bytes) old
+abbrev pub HasWritten : ℕ → List ℕ → List ℕ → List ℕ → Type 0
+HasWritten at bytes old new = new ≡ take at old ++ bytes ++ drop (at + length bytes) old
 
 -- after a write of n bytes that may be cut short: any bytes in its range, the same elsewhere
 pub record Torn (at n : ℕ) (old new : List ℕ) : Type 0 where

@@ -1,6 +1,5 @@
 -- The readings that a clock has ahead, where it tells them.
-use Rattle.std.specs.Prelude.{◌≡◌, ℕ, List, [], ◌∷◌, ◌++◌, Option, Some, None, refl}
-use Rattle.std.proofs.Common.{subst}
+use Rattle.std.specs.Prelude.{◌≡◌, ℕ, List, [], ◌∷◌, Option, Some, None}
 
 -- the reading that comes next: 0 where there was never one
 abbrev pub next_reading : List ℕ → ℕ
@@ -23,13 +22,3 @@ TakesReading (Some readings) (Some later) now = (now ≡ next_reading readings) 
 abbrev pub TakesAll : Option (List ℕ) → Option (List ℕ) → List ℕ → Type 0
 TakesAll old new [] = new ≡ old
 TakesAll old new (now ∷ nows) = (mid : Option (List ℕ)) × TakesReading old mid now × TakesAll mid new nows
-
-pub takes_none : (a : Option (List ℕ)) → TakesAll a a []
-takes_none a = refl
-
-pub takes_one : (a b : Option (List ℕ)) (now : ℕ) → TakesReading a b now → TakesAll a b (now ∷ [])
-takes_one a b now p = (b, p, refl)
-
-pub takes_then : (a b c : Option (List ℕ)) (xs ys : List ℕ) → TakesAll a b xs → TakesAll b c ys → TakesAll a c (xs ++ ys)
-takes_then a b c [] ys p q = subst (λ (x : Option (List ℕ)). TakesAll x c ys) p q
-takes_then a b c (x ∷ xs) ys p q = (p.0, p.1, takes_then p.0 b c xs ys p.2 q)

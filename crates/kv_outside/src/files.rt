@@ -3,7 +3,7 @@ ghost use Rattle.std.specs.Io.{ReadsAtMost};
 ghost use Rattle.kv_base.specs.declared.name.FileName.{FileName};
 ghost use Rattle.kv_outside.specs.Causes.{HasCause};
 ghost use Rattle.kv_outside.specs.Disk.{Disk, Agrees, IsDurable, NothingNew, Changes};
-ghost use Rattle.kv_outside.specs.Files.{Holds, Torn, IsCut, Shortened, IsGone, Purged, Goes, ReadsFrom};
+ghost use Rattle.kv_outside.specs.Files.{HasWritten, Torn, IsCut, Shortened, IsGone, Purged, Goes, ReadsFrom};
 
 use crate::failed::Failed;
 use kv_base::FileName;
@@ -72,7 +72,7 @@ pub trait Files {
     /// front of the range may be written, or other bytes in it.
     fn write_at(&mut self, log: &mut Self::Log, at: u64, bytes: &[u8]) -> Result<(), Failed>
         requires { IfSome (bytes_of log.old) (λ old. at ≤ length old) }
-        ensures written { OnOk result (Goes (Holds at bytes.now) (bytes_of log.old) (bytes_of log.new)) }
+        ensures written { OnOk result (Goes (HasWritten at bytes.now) (bytes_of log.old) (bytes_of log.new)) }
         ensures torn { Goes (Torn at (length bytes.now)) (bytes_of log.old) (bytes_of log.new) }
         ensures limit { OnOk result (at + length bytes.now ≤ 2 ^ 63) }
         ensures name { name_of log.new ≡ name_of log.old }

@@ -24,7 +24,7 @@
 mod clock;
 mod failed;
 mod files;
-mod outlet;
+mod output_buffer;
 mod sink;
 mod source;
 mod writing;
@@ -32,7 +32,7 @@ mod writing;
 pub use clock::Clock;
 pub use failed::Failed;
 pub use files::Files;
-pub use outlet::Outlet;
+pub use output_buffer::OutputBuffer;
 pub use sink::Sink;
 pub use source::Source;
 pub use writing::{write_all, write_pieces};

@@ -2,7 +2,8 @@
 use Rattle.std.proofs.Common.{◌≡◌, ℕ, ◌-◌, ◌≤◌, List, [], ◌∷◌, ◌++◌, length, take, drop, ◌∙◌, ap, arith, length-append, length-drop}
 use Rattle.std.proofs.lemmas.List.{take_at}
 use Rattle.kv_base.specs.Fields.{u32}
-use Rattle.record_body.specs.Framed.{framed, framed_of, length-framed}
+use Rattle.record_body.specs.Framed.{framed}
+use Rattle.record_body.specs.FramedLaws.{framed_of, length-framed}
 
 pub finished : (before after filled : List ℕ) (n all : ℕ) → 4 ≤ length before → n ≡ length before - 4 → after ≡ before ++ 0 ∷ [] → all ≡ length after
     → filled ≡ u32 n ++ drop 4 after → take all (filled ++ drop (length filled) after) ≡ framed (drop 4 before)

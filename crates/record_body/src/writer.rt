@@ -124,31 +124,3 @@ impl BodyWriter {
         Ok(RecordBody { buffer })
     }
 }
-
-#[cfg(test)]
-mod tests {
-    use super::*;
-    use std::test::Fail;
-
-    #[test]
-    fn writes_a_body_between_its_length_and_a_closed_gate(rt: HostRuntime) -> Result<(), Fail> {
-        let mut writer = BodyWriter::new(rt.alloc())?;
-        writer.push(1)?;
-        writer.put_u32(258)?;
-        writer.put_u64(772)?;
-        writer.put_text(b"key")?;
-        writer.put(b"ab")?;
-        assert_eq!(rt; writer.len(), 22);
-
-        let body = writer.finish()?;
-        assert_eq!(rt; body.len(), 22);
-        let bytes = b"\x01\0\0\x01\x02\0\0\0\0\0\0\x03\x04\0\0\0\x03keyab";
-        assert_eq!(rt; body.bytes(), bytes.as_slice());
-        let framed = b"\0\0\0\x16\x01\0\0\x01\x02\0\0\0\0\0\0\x03\x04\0\0\0\x03keyab\0";
-        assert_eq!(rt; body.framed(), framed.as_slice());
-
-        let empty = BodyWriter::new(rt.alloc())?.finish()?;
-        assert_eq!(rt; empty.framed(), b"\0\0\0\0\0".as_slice());
-        Ok(())
-    }
-}

@@ -2,7 +2,7 @@
 use Rattle.std.proofs.Common.{◌≡◌, ℕ, ◌+◌, ◌<◌, ◌≤◌, List, [], ◌++◌, length, take, drop, get_or, sym, ap, ◌∙◌, append_assoc}
 use Rattle.std.proofs.lemmas.List.{append-nil, take_all, take_more, flat_map_more}
 use Rattle.std.specs.List.{flat_map}
-use Rattle.kv_outside.specs.Writing.{pieces_at}
+use Rattle.kv_outside.specs.WritingLaws.{pieces_at}
 use Rattle.std.specs.Prelude.{codes, decimal, ℤ}
 use Rattle.kv_base.specs.Number.{int_text}
 use Rattle.redis_model.specs.declared.reply.Reply.{Reply}

@@ -5,10 +5,11 @@ use Rattle.std.proofs.lemmas.Grind.{common_steps}
 use Rattle.std.proofs.lemmas.Bool.{cases_Bool, cases_lt}
 use Rattle.std.proofs.lemmas.List.{get_or-drop, get_or-take, length-drop, length-take}
 use Rattle.memchr.specs.Find.{Nowhere, NoneBefore, Passes, is_byte3}
-use Rattle.resp_wire.specs.declared.stop.FaultKind.TheVariants.{TooLong}
+use Rattle.resp_wire.specs.declared.stop.ProtocolFault.TheVariants.{TooLong}
 use Rattle.resp_wire.specs.declared.stop.Stop.TheVariants.{More, Bad}
 use Rattle.resp_wire.specs.Grammar.{line}
-use Rattle.resp_wire.specs.Lines.{IsSearched, is_stop, line_full, line_unended}
+use Rattle.resp_wire.specs.Lines.{IsSearched, is_stop}
+use Rattle.resp_wire.specs.LineLaws.{line_full, line_unended}
 
 abbrev pub is_sought : ℕ → Bool
 is_sought = is_byte3 10 34 39

@@ -6,13 +6,16 @@ use Rattle.resp_wire.specs.declared.stop.Stop.{Stop}
 use Rattle.resp_wire.specs.declared.stop.Stop.TheVariants.{More, Bad}
 use Rattle.resp_wire.specs.declared.pending.Pending.{Pending}
 use Rattle.resp_wire.specs.Grammar.{Part, ◌>>=◌, bulk, bulks, count, array, line, line_words, header, request}
-use Rattle.resp_wire.specs.Lines.{BeginsLine, IsSearched, line_open, line_request, line_header, inline_read, inline_fails}
-use Rattle.resp_wire.specs.Reading.{Reads, IsEnd, IsUnfinished, IsHeaded, Refused}
-use Rattle.resp_wire.specs.Held.{with_front, IsBegun, IsHeld, IsIdle, Opens, Fails, opening_of, after_search, answer_of}
-use Rattle.resp_wire.specs.Behind.{Leaves, bulk_leaves, behind_of, Shortens, header_shortens, request_shortens}
-use Rattle.resp_wire.specs.Longer.{Stays, part_on, bulk_stays, count_stays, header_stays, request_stays}
-use Rattle.resp_wire.specs.Requests.{reads_request, is_faulty, is_unfinished}
-use Rattle.resp_wire.specs.Holding.{reads_then}
+use Rattle.resp_wire.specs.Lines.{BeginsLine, IsSearched}
+use Rattle.resp_wire.specs.LineLaws.{line_open, line_request, line_header, inline_read, inline_fails}
+use Rattle.resp_wire.specs.Reading.{ReadsRequest, IsEnd, IsUnfinished, IsHeaded, Refused}
+use Rattle.resp_wire.specs.Held.{with_front, HasHeader, IsHeld, IsIdle, Opens, Fails, opening_of, after_search, answer_of}
+use Rattle.resp_wire.specs.Behind.{LeavesRest, behind_of, Shortens}
+use Rattle.resp_wire.specs.BehindLaws.{bulk_leaves, header_shortens, request_shortens}
+use Rattle.resp_wire.specs.Longer.{Stays, part_on}
+use Rattle.resp_wire.specs.LongerLaws.{bulk_stays, count_stays, header_stays, request_stays}
+use Rattle.resp_wire.specs.RequestLaws.{reads_request, is_faulty, is_unfinished}
+use Rattle.resp_wire.specs.HoldingLaws.{reads_then}
 
 abbrev Words : Type 0
 Words = List (List ℕ)
@@ -92,7 +95,7 @@ module _ (bytes : List ℕ) (at : ℕ) (behind : List ℕ) (inside : at ≤ leng
     on_from : (more : List ℕ) → request (drop at bytes ++ more) ≡ with_front [] (bulks n 16777216 (rest ++ more))
     on_from more = ap (λ (text : List ℕ). request (text ++ more)) here ∙ array_request (behind ++ more) ∙ array_on behind n rest more read ∙ sym (with_nothing (bulks n 16777216 (rest ++ more)))
 
-    pub array_begins : 0 < n → IsBegun bytes (record { start = at; next = length bytes - length rest; words = []; missing = n; room = 16777216 })
+    pub array_begins : 0 < n → HasHeader bytes (record { start = at; next = length bytes - length rest; words = []; missing = n; room = 16777216 })
     array_begins some = record {
       before = omega (arith, array_within);
       inside = omega arith;
@@ -101,7 +104,7 @@ module _ (bytes : List ℕ) (at : ℕ) (behind : List ℕ) (inside : at ≤ leng
       goes_on = λ more. rw (end_at bytes at rest inside leaves.0) (on_from more);
     }
 
-    pub array_skips : n ≤ 0 → Reads (drop at bytes) [] (drop (length bytes - length rest) bytes)
+    pub array_skips : n ≤ 0 → ReadsRequest (drop at bytes) [] (drop (length bytes - length rest) bytes)
     array_skips none = rw (end_at bytes at rest inside leaves.0) (reads_request (drop at bytes) [] rest (ap request here ∙ array_request behind ∙ no_bulks behind n rest read none))
 
 -- ---- inline lines
@@ -127,7 +130,7 @@ module _ (bytes : List ℕ) (at : ℕ) (inside : at ≤ length bytes) (begins : 
     pub line_headed : 0 < length (line_words found) → IsHeaded (drop at bytes)
     line_headed some = rw (line_header (drop at bytes) begins, inline_read (drop at bytes) found rest read) some
 
-    pub line_begins : (room : ℕ) → 0 < length (line_words found) → IsBegun bytes (record { start = at; next = length bytes - length rest; words = line_words found; missing = 0; room = room })
+    pub line_begins : (room : ℕ) → 0 < length (line_words found) → HasHeader bytes (record { start = at; next = length bytes - length rest; words = line_words found; missing = 0; room = room })
     line_begins room some = record {
       before = omega (arith, line_within);
       inside = omega arith;
@@ -136,7 +139,7 @@ module _ (bytes : List ℕ) (at : ℕ) (inside : at ≤ length bytes) (begins : 
       goes_on = λ more. rw (end_at bytes at rest inside line_leaves.0) (request_on (drop at bytes) (line_words found) rest more is_read ∙ sym (all_words (line_words found) room (rest ++ more)));
     }
 
-    pub line_skips : line_words found ≡ [] → Reads (drop at bytes) [] (drop (length bytes - length rest) bytes)
+    pub line_skips : line_words found ≡ [] → ReadsRequest (drop at bytes) [] (drop (length bytes - length rest) bytes)
     line_skips none = rw (end_at bytes at rest inside line_leaves.0) (reads_request (drop at bytes) [] rest (is_read ∙ ap (λ (words : Words). Ok (words, rest)) none))
 
 -- ---- words
@@ -170,7 +173,7 @@ unfolding bulks
 no_word front room bytes = ap (λ (words : Words). Ok (words, bytes)) (append-nil front)
 
 -- a request that is begun
-module _ (bytes : List ℕ) (p : Pending) (begun : IsBegun bytes p) where
+module _ (bytes : List ℕ) (p : Pending) (begun : HasHeader bytes p) where
   goes_on_here : request (drop p.start bytes) ≡ with_front p.words (bulks p.missing p.room (drop p.next bytes))
   goes_on_here = ap request (sym (append-nil (drop p.start bytes))) ∙ begun.goes_on [] ∙ ap (λ (rest : List ℕ). with_front p.words (bulks p.missing p.room rest)) (append-nil (drop p.next bytes))
 
@@ -182,12 +185,12 @@ module _ (bytes : List ℕ) (p : Pending) (begun : IsBegun bytes p) where
 
   module _ (word behind : List ℕ) (read : bulk p.room (drop p.next bytes) ≡ Ok (word, behind)) where
     behind_end : IsEnd (drop p.next bytes) behind
-    behind_end = subst (Leaves behind_of (drop p.next bytes)) read (bulk_leaves p.room (drop p.next bytes))
+    behind_end = subst (LeavesRest behind_of (drop p.next bytes)) read (bulk_leaves p.room (drop p.next bytes))
 
     pub word_within : length behind + p.next ≤ length bytes
     word_within = omega (arith, end_within bytes p.next behind begun.inside behind_end, begun.inside)
 
-    pub word_begins : 0 < p.missing → IsBegun bytes (record { start = p.start; next = length bytes - length behind; words = p.words ++ word ∷ []; missing = p.missing - 1; room = p.room - (length word + 16) })
+    pub word_begins : 0 < p.missing → HasHeader bytes (record { start = p.start; next = length bytes - length behind; words = p.words ++ word ∷ []; missing = p.missing - 1; room = p.room - (length word + 16) })
     word_begins some = record {
       before = omega (arith, word_within, begun.before);
       inside = omega arith;
@@ -198,7 +201,7 @@ module _ (bytes : List ℕ) (p : Pending) (begun : IsBegun bytes p) where
 
 -- ---- what is kept
 
-pub begun_held : (bytes : List ℕ) (p : Pending) → 0 < p.missing → IsBegun bytes p → IsHeld bytes p
+pub begun_held : (bytes : List ℕ) (p : Pending) → 0 < p.missing → HasHeader bytes p → IsHeld bytes p
 begun_held bytes p some begun = record {
   before = omega (arith, begun.before);
   inside = begun.inside;
@@ -288,8 +291,8 @@ held_fed bytes p piece held =
     }
 
 -- all words are handed out
-pub handed_out : (bytes : List ℕ) (start : ℕ) (p : Pending) → start ≤ p.start → Reads (drop start bytes) [] (drop p.start bytes) → IsBegun bytes p → p.missing ≡ 0
-    → Reads (drop start bytes) p.words (drop p.next bytes) × (length (drop p.next bytes) < length (drop start bytes)) × (0 < length p.words)
+pub handed_out : (bytes : List ℕ) (start : ℕ) (p : Pending) → start ≤ p.start → ReadsRequest (drop start bytes) [] (drop p.start bytes) → HasHeader bytes p → p.missing ≡ 0
+    → ReadsRequest (drop start bytes) p.words (drop p.next bytes) × (length (drop p.next bytes) < length (drop start bytes)) × (0 < length p.words)
 handed_out bytes start p forward skipped begun none = (
   reads_then (drop start bytes) (drop p.start bytes) p.words (drop p.next bytes) skipped (reads_request (drop p.start bytes) p.words (drop p.next bytes) (request_is bytes p begun none)),
   omega (arith, length-drop p.next bytes, length-drop start bytes, begun.before, begun.inside),

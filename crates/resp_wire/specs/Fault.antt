@@ -3,11 +3,11 @@ use Rattle.std.specs.Prelude.{ℕ, List, ◌++◌, codes, decimal}
 use Rattle.redis_model.specs.Render.{line_end}
 use Rattle.resp_wire.specs.declared.fault.WireFault.{WireFault}
 use Rattle.resp_wire.specs.declared.fault.WireFault.TheVariants.{BadMark, BadLength, TooLong, Quote, Cut}
-use Rattle.resp_wire.specs.declared.stop.FaultKind.{FaultKind}
-use Rattle.resp_wire.specs.declared.stop.FaultKind.TheVariants as kind
+use Rattle.resp_wire.specs.declared.stop.ProtocolFault.{ProtocolFault}
+use Rattle.resp_wire.specs.declared.stop.ProtocolFault.TheVariants as kind
 
 -- a fault of a request as one of the wire
-abbrev pub fault_of : FaultKind → WireFault
+abbrev pub fault_of : ProtocolFault → WireFault
 fault_of kind.BadMark = BadMark
 fault_of kind.BadLength = BadLength
 fault_of kind.TooLong = TooLong

@@ -5,12 +5,12 @@ use Rattle.std.specs.Prelude.{ℕ, zero, suc, ◌+◌, ◌-◌, ◌*◌, Bool, t
 use Rattle.std.specs.List.{list_any, position_or_len, before_first, after_first, slice_split}
 use Rattle.std.specs.Char.{is_ascii_digit}
 use Rattle.std.specs.Str.Lines.{strip_carriage_return}
-use Rattle.resp_wire.specs.declared.stop.FaultKind.{FaultKind}
-use Rattle.resp_wire.specs.declared.stop.FaultKind.TheVariants.{BadMark, BadLength, TooLong, Quote}
+use Rattle.resp_wire.specs.declared.stop.ProtocolFault.{ProtocolFault}
+use Rattle.resp_wire.specs.declared.stop.ProtocolFault.TheVariants.{BadMark, BadLength, TooLong, Quote}
 use Rattle.resp_wire.specs.declared.stop.Stop.{Stop}
 use Rattle.resp_wire.specs.declared.stop.Stop.TheVariants.{More, Bad}
-use Rattle.resp_wire.specs.declared.parts.Limit.{Limit}
-use Rattle.resp_wire.specs.declared.parts.Limit.TheVariants.{Words, Bytes}
+use Rattle.resp_wire.specs.declared.parts.LengthLimit.{LengthLimit}
+use Rattle.resp_wire.specs.declared.parts.LengthLimit.TheVariants.{Words, Bytes}
 
 -- A part of a text is read as its value and the text behind it. `More` says that the text ends before the part
 -- does, and `Bad` that no longer text has the part either: its number counts the bytes from the fault's place on.
@@ -51,7 +51,7 @@ line_end bytes = mark carriage_return bytes >>= mark line_feed
 
 -- A request has at most 65,536 words, and a word at most 1,048,576 bytes. The room is what its request may still
 -- hold, where each word takes 16 more than its length.
-abbrev pub exceeds : Limit → ℕ → Bool
+abbrev pub exceeds : LengthLimit → ℕ → Bool
 exceeds Words n = nat_lt 65536 n
 exceeds (Bytes room) n = nat_lt 1048576 n || nat_lt room (n + 16)
 
@@ -70,7 +70,7 @@ text_end left (Some n) [] = Err More
 text_end left (Some n) (c ∷ rest) = if c == carriage_return then (mark line_feed rest >>= λ behind. Ok (n, behind)) else Err (Bad BadLength left)
 
 -- a length text behind its digits so far
-unfoldable pub length_from : Limit → ℕ → Option ℕ → List ℕ → Part ℕ
+unfoldable pub length_from : LengthLimit → ℕ → Option ℕ → List ℕ → Part ℕ
 length_from limit left so_far [] = Err More
 length_from limit left so_far (c ∷ rest) =
     if not (is_ascii_digit c) then text_end left so_far (c ∷ rest)
@@ -79,7 +79,7 @@ length_from limit left so_far (c ∷ rest) =
     else length_from limit left (Some (with_digit so_far c)) rest
 
 -- a length text behind its mark: `0`, or a digit 1 to 9 and more digits, and a line end
-unfoldable pub length_text : Limit → List ℕ → Part ℕ
+unfoldable pub length_text : LengthLimit → List ℕ → Part ℕ
 length_text limit bytes = length_from limit (length bytes + 1) None bytes
 
 -- ---- arrays
@@ -169,7 +169,7 @@ header (c ∷ bytes) = if c == star then count bytes else (inline (c ∷ bytes) 
 pub data End : Type 0 where
   Whole : End
   Open : ℕ → End
-  Fault : FaultKind → ℕ → End
+  Fault : ProtocolFault → ℕ → End
 
 -- a request before others; one without words is passed over
 abbrev pub with_request : List (List ℕ) → List (List (List ℕ)) × End → List (List (List ℕ)) × End

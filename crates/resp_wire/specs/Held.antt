@@ -9,7 +9,7 @@ use Rattle.resp_wire.specs.declared.pending.Opening.TheVariants.{Unfinished, Emp
 use Rattle.resp_wire.specs.declared.pending.Pending.{Pending}
 use Rattle.resp_wire.specs.Grammar.{Part, ◌>>=◌, bulk, bulks, request}
 use Rattle.resp_wire.specs.Lines.{IsSearched}
-use Rattle.resp_wire.specs.Reading.{AsksInside, IsHeaded, IsUnfinished, Reads, Refused}
+use Rattle.resp_wire.specs.Reading.{AsksInside, IsHeaded, IsUnfinished, ReadsRequest, Refused}
 
 -- words that were read before, and what is read behind them
 abbrev pub with_front : List (List ℕ) → Part (List (List ℕ)) → Part (List (List ℕ))
@@ -17,7 +17,7 @@ with_front front read = read >>= λ x. Ok (front ++ x.0, x.1)
 
 -- A header was read: however the input goes on, the request in front is the words that were read and those that are
 -- read from `next` on.
-pub record IsBegun (bytes : List ℕ) (p : Pending) : Type 0 where
+pub record HasHeader (bytes : List ℕ) (p : Pending) : Type 0 where
   pub before : p.start < p.next
   pub inside : p.next ≤ length bytes
   pub some : 0 < length p.words + p.missing
@@ -30,7 +30,7 @@ pub record IsHeld (bytes : List ℕ) (p : Pending) : Type 0 where
   pub inside : p.next ≤ length bytes
   pub searched : p.missing ≡ 0 → IsSearched (p.next - p.start) (drop p.start bytes)
   pub none : p.missing ≡ 0 → p.words ≡ []
-  pub begun : 0 < p.missing → IsBegun bytes p
+  pub begun : 0 < p.missing → HasHeader bytes p
 
 -- no request is begun
 pub record IsIdle (bytes : List ℕ) (p : Pending) : Type 0 where
@@ -40,8 +40,8 @@ pub record IsIdle (bytes : List ℕ) (p : Pending) : Type 0 where
 -- what stands where a request is to begin
 abbrev pub Opens : List ℕ → Pending → Pending → Opening → Type 0
 Opens bytes old new Unfinished = IsIdle bytes new × (new.start ≡ old.start) × IsUnfinished (drop old.start bytes)
-Opens bytes old new Empty = IsIdle bytes new × (old.start < new.start) × Reads (drop old.start bytes) [] (drop new.start bytes)
-Opens bytes old new Begun = IsBegun bytes new × (new.start ≡ old.start)
+Opens bytes old new Empty = IsIdle bytes new × (old.start < new.start) × ReadsRequest (drop old.start bytes) [] (drop new.start bytes)
+Opens bytes old new Begun = HasHeader bytes new × (new.start ≡ old.start)
 
 -- it does not stand there, for this cause
 abbrev pub Fails : List ℕ → Pending → Pending → NextFault → Type 0

@@ -1,16 +1,16 @@
 -- What a reader of requests says of the bytes that it was fed.
 use Rattle.std.specs.Prelude.{◌≡◌, ℕ, ◌+◌, ◌-◌, ◌<◌, ◌≤◌, List, [], ◌++◌, drop, length, IsOkAnd}
-use Rattle.resp_wire.specs.declared.stop.FaultKind.{FaultKind}
+use Rattle.resp_wire.specs.declared.stop.ProtocolFault.{ProtocolFault}
 use Rattle.resp_wire.specs.declared.stop.NextFault.{NextFault}
 use Rattle.resp_wire.specs.declared.stop.NextFault.TheVariants.{NoMem, Wire}
 use Rattle.resp_wire.specs.Grammar.{Fault, header, open_end, requests, with_request}
 
 -- However the input goes on, old holds these words as its first request and then what new holds.
-abbrev pub Reads : List ℕ → List (List ℕ) → List ℕ → Type 0
-Reads old words new = (more : List ℕ) → requests (old ++ more) ≡ with_request words (requests (new ++ more))
+abbrev pub ReadsRequest : List ℕ → List (List ℕ) → List ℕ → Type 0
+ReadsRequest old words new = (more : List ℕ) → requests (old ++ more) ≡ with_request words (requests (new ++ more))
 
 -- However the input goes on, it holds no request and ends in this fault.
-abbrev pub IsFaulty : List ℕ → FaultKind → ℕ → Type 0
+abbrev pub IsFaulty : List ℕ → ProtocolFault → ℕ → Type 0
 IsFaulty bytes kind left = (more : List ℕ) → requests (bytes ++ more) ≡ ([], Fault kind (left + length more))
 
 -- The bytes are the beginning of a request, or none.

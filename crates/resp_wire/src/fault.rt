@@ -2,7 +2,7 @@ ghost use Rattle.std.specs.Prelude.{◌≡◌};
 ghost use Rattle.kv_outside.specs.Writing.{Writes};
 ghost use Rattle.resp_wire.specs.Fault.{fault_line, fault_of, fault_text};
 
-use crate::stop::FaultKind;
+use crate::stop::ProtocolFault;
 use itoa::Buffer;
 use kv_outside::{Failed, Sink, write_pieces};
 use std::fmt::{Display, Error, Formatter, Write};
@@ -11,27 +11,27 @@ use std::fmt::{Display, Error, Formatter, Write};
 /// that `write_fault` writes.
 #[derive(Clone, Copy, Debug, PartialEq, Eq)]
 pub enum WireFault {
-    /// `FaultKind::BadMark`.
+    /// `ProtocolFault::BadMark`.
     BadMark,
-    /// `FaultKind::BadLength`.
+    /// `ProtocolFault::BadLength`.
     BadLength,
-    /// `FaultKind::TooLong`.
+    /// `ProtocolFault::TooLong`.
     TooLong,
-    /// `FaultKind::Quote`.
+    /// `ProtocolFault::Quote`.
     Quote,
     /// The input ends inside a request, whose first byte is the place.
     Cut,
 }
 
-impl From<FaultKind> for WireFault {
+impl From<ProtocolFault> for WireFault {
     ghost from_gives = { λ kind fault. fault ≡ fault_of kind };
 
-    fn from(kind: FaultKind) -> WireFault {
+    fn from(kind: ProtocolFault) -> WireFault {
         match kind {
-            FaultKind::BadMark => WireFault::BadMark,
-            FaultKind::BadLength => WireFault::BadLength,
-            FaultKind::TooLong => WireFault::TooLong,
-            FaultKind::Quote => WireFault::Quote,
+            ProtocolFault::BadMark => WireFault::BadMark,
+            ProtocolFault::BadLength => WireFault::BadLength,
+            ProtocolFault::TooLong => WireFault::TooLong,
+            ProtocolFault::Quote => WireFault::Quote,
         }
     }
 }

@@ -4,18 +4,14 @@
 mod fault;
 pub mod laws;
 mod line;
-#[cfg(test)]
-mod paper;
 mod parts;
 mod pending;
 mod reader;
 mod reply;
 mod stop;
-#[cfg(test)]
-mod tests;
 mod words;
 
 pub use fault::{WireFault, write_fault};
 pub use reader::Reader;
 pub use reply::{write_error, write_reply};
-pub use stop::{FaultKind, NextFault};
+pub use stop::{NextFault, ProtocolFault};

@@ -5,7 +5,7 @@ ghost use Rattle.resp_wire.specs.Grammar.{line as line_at};
 ghost use Rattle.resp_wire.specs.Lines.{IsSearched, is_stop};
 ghost use Rattle.resp_wire.specs.Parts.{Gives};
 
-use crate::stop::{FaultKind, Stop};
+use crate::stop::{ProtocolFault, Stop};
 use memchr::memchr3;
 
 /// The most bytes of an inline line before its line feed.
@@ -20,7 +20,7 @@ pub fn line(searched: usize, bytes: &[u8]) -> Result<(&[u8], &[u8]), Stop>
     let (_, fresh) = window.split_at(searched);
     match memchr3(b'\n', b'"', b'\'', fresh) {
         Some(place) => stopped_at(searched + place, bytes),
-        None if bytes.len() > MAX_LINE => Err(Stop::Bad(FaultKind::TooLong, bytes.len())),
+        None if bytes.len() > MAX_LINE => Err(Stop::Bad(ProtocolFault::TooLong, bytes.len())),
         None => Err(Stop::More),
     }
 }
@@ -37,8 +37,8 @@ fn stopped_at(place: usize, bytes: &[u8]) -> Result<(&[u8], &[u8]), Stop>
         let (_, behind) = bytes.split_at(place + 1);
         Ok((line, behind))
     } else if place == MAX_LINE {
-        Err(Stop::Bad(FaultKind::TooLong, bytes.len()))
+        Err(Stop::Bad(ProtocolFault::TooLong, bytes.len()))
     } else {
-        Err(Stop::Bad(FaultKind::Quote, bytes.len() - place))
+        Err(Stop::Bad(ProtocolFault::Quote, bytes.len() - place))
     }
 }

@@ -4,7 +4,7 @@ ghost use Rattle.std.specs.Prelude.{◌≡◌, ◌≤◌};
 ghost use Rattle.resp_wire.specs.Grammar.{mark as mark_at, line_end as line_at, exceeds as exceeds_at, text_end as text_at, length_text as length_at, body as body_at, bulk as bulk_at, minus_one as minus_at, count as count_at};
 ghost use Rattle.resp_wire.specs.Parts.{Gives};
 
-use crate::stop::{FaultKind, Stop};
+use crate::stop::{ProtocolFault, Stop};
 
 /// The most words of a request.
 const MAX_WORDS: usize = 65_536;
@@ -17,7 +17,7 @@ pub const WORD_COST: usize = 16;
 
 /// What a length text counts.
 #[derive(Clone, Copy, Debug, PartialEq, Eq)]
-pub enum Limit {
+pub enum LengthLimit {
     /// The words of a request.
     Words,
     /// The bytes of a word whose request may still hold this much.
@@ -35,7 +35,7 @@ fn mark(byte: u8, bytes: &[u8]) -> Result<&[u8], Stop>
             if *first == byte {
                 Ok(rest)
             } else {
-                Err(Stop::Bad(FaultKind::BadMark, rest.len() + 1))
+                Err(Stop::Bad(ProtocolFault::BadMark, rest.len() + 1))
             }
         }
     }
@@ -51,12 +51,12 @@ fn line_end(bytes: &[u8]) -> Result<&[u8], Stop>
 }
 
 /// Whether this is more than the limit.
-fn exceeds(limit: Limit, n: usize) -> bool
+fn exceeds(limit: LengthLimit, n: usize) -> bool
     ensures { result ≡ exceeds_at limit n }
 {
     match limit {
-        Limit::Words => n > MAX_WORDS,
-        Limit::Bytes(room) => n > MAX_WORD || n + WORD_COST > room,
+        LengthLimit::Words => n > MAX_WORDS,
+        LengthLimit::Bytes(room) => n > MAX_WORD || n + WORD_COST > room,
     }
 }
 
@@ -66,18 +66,18 @@ fn text_end(left: usize, number: Option<usize>, bytes: &[u8]) -> Result<(usize, 
     ensures { Gives (λ x. (x.0, x.1.now)) result (text_at left number bytes.now) }
 {
     let Some(n) = number else {
-        return Err(Stop::Bad(FaultKind::BadLength, left));
+        return Err(Stop::Bad(ProtocolFault::BadLength, left));
     };
     match bytes {
         [] => Err(Stop::More),
         [b'\r', rest @ ..] => Ok((n, mark(b'\n', rest)?)),
-        [_, ..] => Err(Stop::Bad(FaultKind::BadLength, left)),
+        [_, ..] => Err(Stop::Bad(ProtocolFault::BadLength, left)),
     }
 }
 
 /// A length text within the limit and its line end; its mark stands before these bytes.
 #[tactic(auto, unfolding(crate::specs::Grammar::length_text, crate::specs::Grammar::length_from))]
-fn length_text(limit: Limit, bytes: &[u8]) -> Result<(usize, &[u8]), Stop>
+fn length_text(limit: LengthLimit, bytes: &[u8]) -> Result<(usize, &[u8]), Stop>
     ensures { Gives (λ x. (x.0, x.1.now)) result (length_at limit bytes.now) }
 {
     let left = bytes.len() + 1;
@@ -88,11 +88,11 @@ fn length_text(limit: Limit, bytes: &[u8]) -> Result<(usize, &[u8]), Stop>
             return text_end(left, number, rest);
         }
         if number == Some(0) {
-            return Err(Stop::Bad(FaultKind::BadLength, left));
+            return Err(Stop::Bad(ProtocolFault::BadLength, left));
         }
         let n = number.unwrap_or(0) * 10 + usize::from(*digit - b'0');
         if exceeds(limit, n) {
-            return Err(Stop::Bad(FaultKind::TooLong, left));
+            return Err(Stop::Bad(ProtocolFault::TooLong, left));
         }
         number = Some(n);
         rest = behind;
@@ -118,7 +118,7 @@ pub fn bulk(room: usize, bytes: &[u8]) -> Result<(&[u8], &[u8]), Stop>
     ensures { Gives (λ x. (x.0.now, x.1.now)) result (bulk_at room bytes.now) }
 {
     let rest = mark(b'$', bytes)?;
-    let (n, rest) = length_text(Limit::Bytes(room), rest)?;
+    let (n, rest) = length_text(LengthLimit::Bytes(room), rest)?;
     body(n, rest)
 }
 
@@ -130,7 +130,7 @@ fn minus_one(left: usize, bytes: &[u8]) -> Result<(usize, &[u8]), Stop>
     match bytes {
         [] => Err(Stop::More),
         [b'1', rest @ ..] => text_end(left, Some(0), rest),
-        [_, ..] => Err(Stop::Bad(FaultKind::BadLength, left)),
+        [_, ..] => Err(Stop::Bad(ProtocolFault::BadLength, left)),
     }
 }
 
@@ -142,6 +142,6 @@ pub fn count(bytes: &[u8]) -> Result<(usize, &[u8]), Stop>
     match bytes {
         [] => Err(Stop::More),
         [b'-', rest @ ..] => minus_one(rest.len() + 2, rest),
-        [_, ..] => length_text(Limit::Words, bytes),
+        [_, ..] => length_text(LengthLimit::Words, bytes),
     }
 }

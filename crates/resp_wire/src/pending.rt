@@ -1,8 +1,8 @@
 ghost use Rattle.std.specs.Prelude.{◌≡◌, ◌<◌, ◌≤◌, ◌+◌, ◌++◌, ◌∷◌, [], drop, vec_len, MatchBool, OnOk, OnErr, IfOk, IfErr};
 ghost use Rattle.resp_wire.specs.Grammar.{star};
 ghost use Rattle.resp_wire.specs.Lines.{BeginsLine};
-ghost use Rattle.resp_wire.specs.Reading.{AsksInside, IsUnfinished, Reads, Refused};
-ghost use Rattle.resp_wire.specs.Held.{AsksWord, Fails, IsBegun, IsHeld, IsIdle, Opens, after_search, answer_of, opening_of};
+ghost use Rattle.resp_wire.specs.Reading.{AsksInside, IsUnfinished, ReadsRequest, Refused};
+ghost use Rattle.resp_wire.specs.Held.{AsksWord, Fails, HasHeader, IsHeld, IsIdle, Opens, after_search, answer_of, opening_of};
 
 use crate::line::line;
 use crate::parts::{WORD_COST, bulk, count};
@@ -79,7 +79,7 @@ fn unopened(stop: Stop) -> Result<Opening, NextFault>
     }
 }
 
-/// Reads the first line of an array, behind its `*`.
+/// ReadsRequest the first line of an array, behind its `*`.
 fn open_array(buf: &[u8], behind: &[u8], pending: &mut Pending) -> Result<Opening, NextFault>
     requires idle { IsIdle buf.now pending.old }
     requires here { drop pending.old.start buf.now ≡ star ∷ behind.now }
@@ -111,7 +111,7 @@ fn searched(stop: Stop, len: usize, pending: &mut Pending) -> Result<Opening, Ne
     unopened(stop)
 }
 
-/// Reads an inline line, which is searched on from where it was searched before.
+/// ReadsRequest an inline line, which is searched on from where it was searched before.
 fn open_line(alloc: Global, buf: &[u8], pending: &mut Pending) -> Result<Opening, NextFault>
     requires idle { IsIdle buf.now pending.old }
     requires begins { BeginsLine (drop pending.old.start buf.now) }
@@ -133,7 +133,7 @@ fn open_line(alloc: Global, buf: &[u8], pending: &mut Pending) -> Result<Opening
     Ok(Opening::Begun)
 }
 
-/// Reads what stands where a request is to begin.
+/// ReadsRequest what stands where a request is to begin.
 fn open_next(alloc: Global, buf: &[u8], pending: &mut Pending) -> Result<Opening, NextFault>
     requires { IsIdle buf.now pending.old }
     ensures ok { IfOk result (λ opening. Opens buf.now pending.old pending.new opening) }
@@ -154,9 +154,9 @@ fn open_next(alloc: Global, buf: &[u8], pending: &mut Pending) -> Result<Opening
 pub fn begin(alloc: Global, buf: &[u8], pending: &mut Pending) -> Result<bool, NextFault>
     requires { IsHeld buf.now pending.old }
     ensures forward { pending.old.start ≤ pending.new.start }
-    ensures skipped { Reads (drop pending.old.start buf.now) [] (drop pending.new.start buf.now) }
+    ensures skipped { ReadsRequest (drop pending.old.start buf.now) [] (drop pending.new.start buf.now) }
     ensures found { IfOk result (λ found. MatchBool found
-        (IsBegun buf.now pending.new)
+        (HasHeader buf.now pending.new)
         (IsHeld buf.now pending.new × IsUnfinished (drop pending.new.start buf.now))) }
     ensures held { OnErr result (IsHeld buf.now pending.new) }
     ensures fault { IfErr result (λ e. Refused (drop pending.new.start buf.now) e) }
@@ -174,10 +174,10 @@ pub fn begin(alloc: Global, buf: &[u8], pending: &mut Pending) -> Result<bool, N
     }
 }
 
-/// Reads the words that are missing: whether all are there.
+/// ReadsRequest the words that are missing: whether all are there.
 pub fn read_words(alloc: Global, buf: &[u8], pending: &mut Pending) -> Result<bool, NextFault>
-    requires { IsBegun buf.now pending.old }
-    ensures begun { IsBegun buf.now pending.new }
+    requires { HasHeader buf.now pending.old }
+    ensures begun { HasHeader buf.now pending.new }
     ensures start { pending.new.start ≡ pending.old.start }
     ensures read { IfOk result (λ whole. MatchBool whole
         (pending.new.missing ≡ 0)

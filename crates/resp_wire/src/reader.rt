@@ -1,6 +1,6 @@
 ghost use Rattle.std.specs.Prelude.{◌≡◌, ◌<◌, ◌++◌, List, [], length, MatchOption, IfErr, IfOk, IfSome, IfNone, OnOk, OnErr};
 ghost use Rattle.resp_wire.specs.Grammar.{requests, Whole, Open};
-ghost use Rattle.resp_wire.specs.Reading.{Reads, IsUnfinished, Refused, AsksInside};
+ghost use Rattle.resp_wire.specs.Reading.{ReadsRequest, IsUnfinished, Refused, AsksInside};
 
 use crate::pending::{Pending, begin, drop_front, read_words};
 use crate::stop::NextFault;
@@ -76,15 +76,15 @@ impl Reader {
     /// again at each further call, whatever is fed.
     pub fn next(&mut self) -> Result<Option<Blobs>, NextFault>
         ensures some { IfOk result (λ got. IfSome got (λ words.
-            Reads self.old words self.new
+            ReadsRequest self.old words self.new
             × (length self.new < length self.old)
             × (0 < length words))) }
         ensures none { IfOk result (λ got. IfNone got
-            (Reads self.old [] self.new × IsUnfinished self.new)) }
+            (ReadsRequest self.old [] self.new × IsUnfinished self.new)) }
         ensures fault { IfErr result (λ e. Refused self.old e) }
         ensures again { IfErr result (λ e. Refused self.new e) }
         ensures memory { IfErr result (λ e. AsksInside self.new e) }
-        ensures err { OnErr result (Reads self.old [] self.new) }
+        ensures err { OnErr result (ReadsRequest self.old [] self.new) }
     {
         if !begin(self.alloc, &self.buf, &mut self.pending)? {
             return Ok(None);

@@ -104,6 +104,3 @@ fn text_of_error(error: ReplyError) -> &'static [u8]
         ReplyError::NotPinned => b"ERR not pinned",
     }
 }
-
-#[cfg(test)]
-mod tests;

@@ -5,7 +5,7 @@ use kv_base::NoMem;
 
 /// What is wrong with a request.
 #[derive(Clone, Copy, Debug, PartialEq, Eq)]
-pub enum FaultKind {
+pub enum ProtocolFault {
     /// A byte stands where another must: no `*` or `$`, or no line end.
     BadMark,
     /// What follows a `*` or `$` is no number as it is written here.
@@ -24,7 +24,7 @@ pub enum NextFault {
     /// A fault, and how many of the bytes fed so far stand from its place on: its place in the input, from 0, is the
     /// number of bytes fed in all less these. It comes again at each further call. The place is the wrong byte for
     /// `BadMark` and `Quote`, for `TooLong` of an inline line its first byte, and else the `*` or `$` before the number.
-    Wire(FaultKind, usize),
+    Wire(ProtocolFault, usize),
 }
 
 impl From<NoMem> for NextFault {
@@ -41,5 +41,5 @@ pub enum Stop {
     /// The text ends before the part does.
     More,
     /// A fault, and how many bytes are left from its place on.
-    Bad(FaultKind, usize),
+    Bad(ProtocolFault, usize),
 }

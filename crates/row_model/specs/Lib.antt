@@ -1,10 +1,11 @@
-pub mod BatchRows
-pub mod Merging
+pub mod BatchRowLaws
+pub mod MergingLaws
 pub mod ReplayLaws
 pub mod Replays
 pub mod RowLaws
 pub mod RowMaps
+pub mod RowMapLaws
 pub mod RowOrder
 pub mod RowOrderLaws
-pub mod RowSearch
+pub mod RowSearchLaws
 pub mod Rows

@@ -10,7 +10,7 @@ use Rattle.std.specs.Cmp.{tied_itself, eq_by_cmp_equiv}
 use Rattle.std.proofs.lemmas.Bool.Decides.{nat_tests}
 use Rattle.std.proofs.lemmas.List.Sorted.{IsPermutation-refl, IsPermutation-sym, IsPermutation-cons, IsPermutation-trans, IsPermutation-middle, IsPermutation-append_left, IsPermutation-append_comm, Contains-permutation}
 use Rattle.std.proofs.lemmas.Map.Keys.{IsDistinct-from_sorted, IsDistinct-IsPermutation, apart_from_distinct, sorted_from_all_adjacent}
-use Rattle.kv_base.specs.Inversions.{both_first, both_second}
+use Rattle.kv_base.specs.InversionLaws.{both_first, both_second}
 use Rattle.kv_base.specs.Map.{Bytes, Map, empty, get, get-empty, same_map}
 use Rattle.batch_codec.specs.Batches.{Batch, after, over}
 use Rattle.batch_codec.specs.BatchLaws.{get-after}
@@ -19,9 +19,11 @@ use Rattle.kv_base.specs.declared.row.Row.{Row}
 use Rattle.row_model.specs.Rows.{are_upto, are_below, seen_at, at, batch_rows, HaveSameRows}
 use Rattle.row_model.specs.RowOrder.{row_cmp, leads, is_ordered, placed, merged}
 use Rattle.row_model.specs.RowLaws.{there_first, there_behind, there_cases, there_never, as_row, batch_shows}
-use Rattle.row_model.specs.RowMaps.{value_seen, get_at, at_merged, at_batch}
-use Rattle.row_model.specs.RowOrderLaws.{row_total, less, ordered_with_batch, below_from_upto, upto_with_batch}
-use Rattle.row_model.specs.RowSearch.{leads_each}
+use Rattle.row_model.specs.RowMaps.{value_seen}
+use Rattle.row_model.specs.RowMapLaws.{get_at, at_merged, at_batch}
+use Rattle.row_model.specs.RowOrderLaws.{row_total, ordered_with_batch, below_from_upto, upto_with_batch}
+use Rattle.kv_base.specs.TestLaws.{less_is as less}
+use Rattle.row_model.specs.RowSearchLaws.{leads_each}
 use Rattle.row_model.specs.Replays.{rise_above, do_rise, last_from, rows_after, record_rows, replayed}
 
 both : (a b : Bool) → a ≡ true → b ≡ true → (a && b) ≡ true

@@ -4,9 +4,9 @@ use Rattle.std.specs.Prelude.{nat_lt, nat_le, ◌&&◌, ◌⊎◌, IsTrue, map, 
 use Rattle.std.specs.List.{Contains}
 use Rattle.std.proofs.lemmas.Bool.Decides.{nat_tests}
 use Rattle.std.specs.FinMap.Entries.{find}
-use Rattle.kv_base.specs.Inversions.{both_first, both_second}
+use Rattle.kv_base.specs.InversionLaws.{both_first, both_second}
 use Rattle.kv_base.specs.Map.{Bytes, byte_cmp, same, same_is, same_itself, get}
-use Rattle.batch_codec.specs.Batches.{Entry, Batch}
+use Rattle.batch_codec.specs.Batches.{BatchEntry, Batch}
 use Rattle.kv_base.specs.declared.row.Row.{Row}
 use Rattle.row_model.specs.Rows.{are_upto, shown, newer, seen_at, IsNewestAt, row_of, batch_rows, AreApart, HaveSameRows}
 
@@ -209,7 +209,7 @@ front_stays : (seq : ℕ) (raw : Bytes) (row : Row) (o : Option (Option Bytes)) 
 front_stays seq raw row None is = refl
 front_stays seq raw row (Some value) is = ap (λ (n : ℕ). cond (nat_lt n seq) (Some (as_row seq raw value)) (Some row)) is ∙ ap (λ b. cond b (Some (as_row seq raw value)) (Some row)) (same_seq seq)
 
-rows_show : (seq s : ℕ) (es : List Entry) (raw : Bytes) → seq ≤ s → seen_at (map (row_of seq) es) s raw ≡ option_map (as_row seq raw) (find byte_cmp raw es)
+rows_show : (seq s : ℕ) (es : List BatchEntry) (raw : Bytes) → seq ≤ s → seen_at (map (row_of seq) es) s raw ≡ option_map (as_row seq raw) (find byte_cmp raw es)
 unfolding seen_at
 rows_show seq s [] raw low = refl
 rows_show seq s (e ∷ es) raw low =
@@ -230,7 +230,7 @@ pub batch_shows : (seq s : ℕ) (batch : Batch) (raw : Bytes) → seq ≤ s → 
 unfolding batch_rows get
 batch_shows seq s batch raw low = rows_show seq s batch.entries raw low
 
-none_show : (seq s : ℕ) (es : List Entry) (raw : Bytes) → s < seq → seen_at (map (row_of seq) es) s raw ≡ None
+none_show : (seq s : ℕ) (es : List BatchEntry) (raw : Bytes) → s < seq → seen_at (map (row_of seq) es) s raw ≡ None
 unfolding seen_at
 none_show seq s [] raw high = refl
 none_show seq s (e ∷ es) raw high = ap (λ o. newer o (seen_at (map (row_of seq) es) s raw)) (shown_not s raw (row_of seq e) high) ∙ none_show seq s es raw high

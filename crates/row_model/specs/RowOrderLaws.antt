@@ -9,22 +9,18 @@ use Rattle.std.specs.Cmp.{IsTotalOrder, nat_cmp_total, on_total, then_total, bac
 use Rattle.std.specs.Cmp.Lexicographic.{nat_list_cmp_total}
 use Rattle.std.specs.FinMap.Entries.{below_all, is_sorted}
 use Rattle.std.proofs.lemmas.Bool.Decides.{nat_tests}
-use Rattle.kv_base.specs.Inversions.{both_first, both_second}
+use Rattle.kv_base.specs.InversionLaws.{both_first, both_second}
 use Rattle.kv_base.specs.Map.{byte_cmp}
-use Rattle.batch_codec.specs.Batches.{Entry, Batch, is_row, are_rows}
+use Rattle.batch_codec.specs.Batches.{BatchEntry, Batch, is_row, are_rows}
 use Rattle.kv_base.specs.declared.row.Row.{Row}
 use Rattle.row_model.specs.Rows.{are_below, are_upto, are_row_texts, row_of, batch_rows, HaveSameRows}
 use Rattle.row_model.specs.RowOrder.{row_cmp, leads, is_ordered, placed, merged}
 use Rattle.row_model.specs.RowLaws.{there_first, there_behind, there_cases}
+use Rattle.kv_base.specs.TestLaws.{less_is as less}
 
 -- the order of rows is a total one
 pub row_total : IsTotalOrder row_cmp
 row_total = then_total (on_total (λ row. row.raw) nat_list_cmp_total) (on_total (λ row. row.seq) (back_total nat_cmp_total))
-
-pub less : (o : Ordering) → is_lt o ≡ true → o ≡ Less
-less Less e = refl
-less Equal e = absurd (cc)
-less Greater e = absurd (cc)
 
 both : (a b : Bool) → a ≡ true → b ≡ true → (a && b) ≡ true
 both a b e f = rw (e, f) refl
@@ -93,14 +89,14 @@ ordered_merged rows (row ∷ more) u h e =
 
 -- ---- the rows of a batch
 
-leads_entries : (seq : ℕ) (e : Entry) (es : List Entry) → T (below_all byte_cmp e.0 es) → leads (row_of seq e) (map (row_of seq) es) ≡ true
+leads_entries : (seq : ℕ) (e : BatchEntry) (es : List BatchEntry) → T (below_all byte_cmp e.0 es) → leads (row_of seq e) (map (row_of seq) es) ≡ true
 leads_entries seq e [] h = refl
 leads_entries seq e (f ∷ es) h =
     both (is_lt (row_cmp (row_of seq e) (row_of seq f))) (leads (row_of seq e) (map (row_of seq) es))
     (ap (λ o. is_lt (ordering_then o (nat_cmp seq seq))) (less (byte_cmp e.0 f.0) (both_first (is_lt (byte_cmp e.0 f.0)) (below_all byte_cmp e.0 es) (true_is _ h))))
     (leads_entries seq e es (subst T (sym (both_second (is_lt (byte_cmp e.0 f.0)) (below_all byte_cmp e.0 es) (true_is _ h))) tt))
 
-ordered_entries : (seq : ℕ) (es : List Entry) → T (is_sorted byte_cmp es) → is_ordered (map (row_of seq) es) ≡ true
+ordered_entries : (seq : ℕ) (es : List BatchEntry) → T (is_sorted byte_cmp es) → is_ordered (map (row_of seq) es) ≡ true
 unfolding is_ordered
 ordered_entries seq [] h = refl
 ordered_entries seq (e ∷ es) h =
@@ -128,7 +124,7 @@ pub untied_batch : (seq : ℕ) (batch : Batch) (rows : List Row) → are_below s
 unfolding batch_rows
 untied_batch seq batch rows h = each batch.entries
   where
-    each : (es : List Entry) → are_untied (map (row_of seq) es) rows ≡ true
+    each : (es : List BatchEntry) → are_untied (map (row_of seq) es) rows ≡ true
     each [] = refl
     each (e ∷ es) = both (is_untied (row_of seq e) rows) (are_untied (map (row_of seq) es) rows) (newer_untied (row_of seq e) rows h) (each es)
 
@@ -140,7 +136,7 @@ pub texts_of_batch : (seq : ℕ) (batch : Batch) → IsTrue (are_rows batch.entr
 unfolding batch_rows
 texts_of_batch seq batch h = each batch.entries h
   where
-    each : (es : List Entry) → are_rows es ≡ true → are_row_texts (map (row_of seq) es) ≡ true
+    each : (es : List BatchEntry) → are_rows es ≡ true → are_row_texts (map (row_of seq) es) ≡ true
     each [] h = refl
     each (e ∷ es) h = both (is_row e) (are_row_texts (map (row_of seq) es)) (both_first (is_row e) (are_rows es) h) (each es (both_second (is_row e) (are_rows es) h))
 
@@ -162,7 +158,7 @@ upto_with_batch rows seq batch low =
     reached : nat_le seq seq ≡ true
     reached = grind (arith, nat_tests)
 
-    each : (es : List Entry) → are_upto seq (map (row_of seq) es) ≡ true
+    each : (es : List BatchEntry) → are_upto seq (map (row_of seq) es) ≡ true
     each [] = refl
     each (e ∷ es) = both (nat_le seq seq) (are_upto seq (map (row_of seq) es)) reached (each es)
 

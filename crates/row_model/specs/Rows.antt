@@ -2,7 +2,7 @@
 use Rattle.std.specs.Prelude.{◌≡◌, ℕ, ◌<◌, ◌≤◌, nat_lt, nat_le, Bool, true, if◌then◌else◌, ◌&&◌, List, [], ◌∷◌, map, Option, Some, None}
 use Rattle.std.specs.List.{list_all, Contains}
 use Rattle.kv_base.specs.Map.{Bytes, same, Map, empty, get, insert, choose}
-use Rattle.batch_codec.specs.Batches.{Entry, Batch, is_row}
+use Rattle.batch_codec.specs.Batches.{BatchEntry, Batch, is_row}
 use Rattle.kv_base.specs.declared.row.Row.{Row}
 
 -- raw key and value are on the grammar
@@ -62,7 +62,7 @@ at rows s = choose (λ row. row.value) (newest rows s)
 
 -- ---- the rows of a batch
 
-abbrev pub row_of : ℕ → Entry → Row
+abbrev pub row_of : ℕ → BatchEntry → Row
 row_of seq entry = record { raw = entry.0; seq = seq; value = entry.1 }
 
 -- what a batch writes under a sequence

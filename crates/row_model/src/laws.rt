@@ -18,7 +18,7 @@ pub fn the_newest_row_shows()
 {}
 
 /// The map at a sequence has the value of the row that shows, and nothing where that is a delete or none shows.
-#[tactic(auto, using(crate::specs::RowMaps::get_at))]
+#[tactic(auto, using(crate::specs::RowMapLaws::get_at))]
 pub fn maps_have_what_shows()
     ensures { (rows : List Row) (s : ℕ) (raw : Bytes) → get (at rows s) raw ≡ option_and_then (λ row. row.value) (seen_at rows s raw) }
 {}
@@ -30,13 +30,13 @@ pub fn rows_in_front_win()
 {}
 
 /// Lists of the same rows show the same, whatever their order, where no two rows have both raw key and sequence equal.
-#[tactic(auto, using(crate::specs::RowMaps::same_rows_alike))]
+#[tactic(auto, using(crate::specs::RowMapLaws::same_rows_alike))]
 pub fn only_the_rows_decide()
     ensures { (rows others : List Row) (s : ℕ) → AreApart rows → HaveSameRows rows others → at others s ≡ at rows s }
 {}
 
 /// Rows that are put among others at their places show what they show in front of them.
-#[tactic(auto, using(crate::specs::RowMaps::at_merged))]
+#[tactic(auto, using(crate::specs::RowMapLaws::at_merged))]
 pub fn rows_put_among_others_show_alike()
     ensures { (rows more : List Row) (s : ℕ) → at (merged rows more) s ≡ at (more ++ rows) s }
 {}
@@ -55,7 +55,7 @@ pub fn batches_leave_rows_in_order()
 
 /// In rows in order, what shows is the first row that does not stand in front of the place of the raw key at the sequence,
 /// where it is one of that raw key.
-#[tactic(auto, using(crate::specs::RowSearch::seen_from))]
+#[tactic(auto, using(crate::specs::RowSearchLaws::seen_from))]
 pub fn one_place_shows()
     ensures { (rows : List Row) (place : ℕ) (raw : Bytes) (s : ℕ) → IsTrue (is_ordered rows) →
         IsPartitionPoint (λ row. is_before raw s row ≡ true) (λ row. is_before raw s row ≡ false) rows place →
@@ -64,14 +64,14 @@ pub fn one_place_shows()
 
 /// With the rows of a batch under a sequence above all others, the map at that sequence is the map before, changed by the
 /// batch. Before it is at any sequence below the batch's from the greatest one on.
-#[tactic(auto, using(crate::specs::RowMaps::at_batch))]
+#[tactic(auto, using(crate::specs::RowMapLaws::at_batch))]
 pub fn batches_show_at_their_sequence()
     ensures { (rows : List Row) (last seq : ℕ) (batch : Batch) → IsTrue (are_upto last rows) → last < seq →
         at (batch_rows seq batch ++ rows) seq ≡ after (at rows last) batch }
 {}
 
 /// Below the sequence of a batch the map stays as it was.
-#[tactic(auto, using(crate::specs::RowMaps::at_before_batch))]
+#[tactic(auto, using(crate::specs::RowMapLaws::at_before_batch))]
 pub fn older_views_stay()
     ensures { (rows : List Row) (s seq : ℕ) (batch : Batch) → s < seq → at (batch_rows seq batch ++ rows) s ≡ at rows s }
 {}

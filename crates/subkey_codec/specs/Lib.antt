@@ -1,4 +1,4 @@
-pub mod ElementKeys
+pub mod ElementKeyLaws
 pub mod NumberLaws
 pub mod Numbers
 pub mod OrderLaws

@@ -6,7 +6,7 @@ use Rattle.kv_base.specs.Map.{Bytes}
 use Rattle.kv_base.specs.Number.{fits}
 use Rattle.kv_base.specs.Fields.{u64, read_u64}
 use Rattle.kv_base.specs.FieldLaws.{length-u64, u64_is_read, only_u64_is_read, u64_of_bytes}
-use Rattle.kv_base.specs.Inversions.{same_some, and_then_is, map_is, if_is}
+use Rattle.kv_base.specs.InversionLaws.{same_some, and_then_is, map_is, if_is}
 use Rattle.kv_base.specs.MetaValues.{is_empty}
 use Rattle.kv_base.specs.RawKeys.{score_number, score_from}
 use Rattle.kv_base.specs.RawKeyLaws.{score_number_low, score_is_read as score_is_back, score_is_written}

@@ -53,29 +53,3 @@ fn score_from(number: u64) -> i64
 {
     number.wrapping_sub(1 << 63).cast_signed()
 }
-
-#[cfg(test)]
-mod tests {
-    use super::*;
-    use std::test::Fail;
-
-    #[test]
-    fn scores_and_places(rt: HostRuntime) -> Result<(), Fail> {
-        let rows = [
-            (0, b"\x80\x00\x00\x00\x00\x00\x00\x00".as_slice()),
-            (1 << 53, b"\x80\x20\x00\x00\x00\x00\x00\x00".as_slice()),
-            (-(1 << 53), b"\x7F\xE0\x00\x00\x00\x00\x00\x00".as_slice()),
-        ];
-        for (score, bytes) in rows {
-            assert_eq!(rt; score_value(rt.alloc(), score)?.bytes(), bytes);
-            assert_eq!(rt; decode_score(bytes), Some(score));
-        }
-        assert_eq!(rt;
-            decode_index(b"\x80\x00\x00\x00\x00\x00\x00\x01"),
-            Some((1 << 63) + 1)
-        );
-        assert_eq!(rt; decode_index(b"\x80\x00\x00\x00\x00\x00\x00"), None);
-        assert_eq!(rt; decode_score(b"\x80\x00\x00\x00\x00\x00\x00\x00\x00"), None);
-        Ok(())
-    }
-}

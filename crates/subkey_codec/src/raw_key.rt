@@ -22,7 +22,7 @@ const MAX_BEHIND: usize = 8 + 65535;
 /// The raw key of a field or a member.
 ///
 /// It is the prefix of the life in the space of elements, and the subkey.
-#[tactic(auto, using(crate::specs::ElementKeys::element_key_is_raw), unfolding(kv_base::specs::RawKeys::raw_text))]
+#[tactic(auto, using(crate::specs::ElementKeyLaws::element_key_is_raw), unfolding(kv_base::specs::RawKeys::raw_text))]
 pub fn field_key(alloc: Global, key: &Key, version: u64, subkey: &[u8]) -> Result<Blob, NoMem>
     requires version { IsTrue (is_version version) }
     requires subkey { IsTrue (is_key subkey.now) }
@@ -50,7 +50,7 @@ pub fn index_key(alloc: Global, key: &Key, version: u64, index: u64) -> Result<B
 ///
 /// It is the prefix of the life in the space of scores, the score and 2^63 in eight bytes, high byte first, and the
 /// member. So the raw keys of a life ascend by score, and by member where scores are equal.
-#[tactic(auto, using(crate::specs::ElementKeys::score_key_is_raw), unfolding(kv_base::specs::RawKeys::raw_text, kv_base::specs::Fields::u64))]
+#[tactic(auto, using(crate::specs::ElementKeyLaws::score_key_is_raw), unfolding(kv_base::specs::RawKeys::raw_text, kv_base::specs::Fields::u64))]
 pub fn score_key(
     alloc: Global,
     key: &Key,
@@ -105,36 +105,4 @@ fn life_with_room(
     raw.extend_from_slice(key)?;
     raw.extend_from_slice(&version.to_be_bytes())?;
     Ok(raw)
-}
-
-#[cfg(test)]
-mod tests {
-    use super::*;
-    use std::test::Fail;
-
-    #[test]
-    fn raw_keys(rt: HostRuntime) -> Result<(), Fail> {
-        let key = Key::new(Blob::copy(rt.alloc(), b"k")?)?;
-        assert_eq!(rt;
-            field_key(rt.alloc(), &key, 2048, b"f")?.bytes(),
-            b"\x73\x00\x00\x00\x00\x01k\x00\x00\x00\x00\x00\x00\x08\x00f".as_slice()
-        );
-        assert_eq!(rt;
-            index_key(rt.alloc(), &key, 2048, 1 << 63)?.bytes(),
-            b"\x73\x00\x00\x00\x00\x01k\x00\x00\x00\x00\x00\x00\x08\x00\x80\x00\x00\x00\x00\x00\x00\x00".as_slice()
-        );
-        assert_eq!(rt;
-            score_key(rt.alloc(), &key, 2048, -(1 << 53), b"m")?.bytes(),
-            b"\x7A\x00\x00\x00\x00\x01k\x00\x00\x00\x00\x00\x00\x08\x00\x7F\xE0\x00\x00\x00\x00\x00\x00m".as_slice()
-        );
-        assert_eq!(rt;
-            life_prefix(rt.alloc(), SCORES, &key, 2048)?.bytes(),
-            b"\x7A\x00\x00\x00\x00\x01k\x00\x00\x00\x00\x00\x00\x08\x00".as_slice()
-        );
-        assert_eq!(rt;
-            life_prefix(rt.alloc(), ELEMENTS, &key, (1 << 53) - 1)?.bytes(),
-            b"\x73\x00\x00\x00\x00\x01k\x00\x1F\xFF\xFF\xFF\xFF\xFF\xFF".as_slice()
-        );
-        Ok(())
-    }
 }

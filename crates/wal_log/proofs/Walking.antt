@@ -2,8 +2,9 @@
 use Rattle.std.proofs.Common.{◌≡◌, ℕ, ◌≤◌, List, [], ◌∷◌, ◌++◌, length, drop, Option, Some, None, Ok, Err, sym, ◌∙◌, ap, subst, arith}
 use Rattle.kv_base.specs.Map.{Bytes}
 use Rattle.gated_log.specs.Gated.{records, EndsAt}
-use Rattle.gated_log.specs.Records.{records-gated, ends_records}
-use Rattle.gated_log.specs.Walk.{IsPassed, StandsAt, walk_begins, walk_goes_on, walk_ends}
+use Rattle.gated_log.specs.RecordLaws.{records-gated, ends_records}
+use Rattle.gated_log.specs.Walk.{IsPassed, StandsAt}
+use Rattle.gated_log.specs.WalkLaws.{walk_begins, walk_goes_on, walk_ends}
 use Rattle.batch_codec.specs.declared.record.Record.{Record}
 use Rattle.wal_log.specs.Segments.{stamp_of, record_behind, records_from, records_of, last_behind, segment_of}
 use Rattle.wal_log.specs.SegmentLaws.{segment_of-records, records_of-push, records_of-damage, last_behind-push}

@@ -1,11 +1,10 @@
 -- What the reading of a segment tells.
 use Rattle.std.specs.Prelude.{◌≡◌, ℕ, nat_lt, length, Some, Result, Ok, Err}
-use Rattle.std.proofs.Common.{subst, sym}
 use Rattle.kv_base.specs.Map.{Bytes}
 use Rattle.kv_base.specs.declared.name.FileName.{FileName}
 use Rattle.kv_base.specs.declared.fault.StoreFault.{StoreFault}
 use Rattle.kv_base.specs.declared.fault.StoreFault.TheVariants.{Failed, Damaged, NoMem}
-use Rattle.kv_outside.specs.Disk.{Disk, Leaves}
+use Rattle.kv_outside.specs.Disk.{Disk, CrashLeaves}
 use Rattle.gated_log.specs.Gated.{records as bodies_in, EndsAt}
 use Rattle.wal_log.specs.Segments.{last_behind, segment_of, end_of}
 use Rattle.wal_log.specs.declared.segment.Found.{Found}
@@ -36,24 +35,16 @@ ReadsBytes before name bytes (Err Failed) = ⊥
 ReadsBytes before name bytes (Err NoMem) = Unit {0}
 
 -- A file was read, and its bytes have P: those that it reads as, where the disk tells. From then on a crash leaves them.
-pub record Reads (name : FileName) (old new : Disk) (P : Bytes → Type 0) : Type 0 where
+pub record ReadsFile (name : FileName) (old new : Disk) (P : Bytes → Type 0) : Type 0 where
   pub bytes : Bytes
   pub told : (own : Bytes) → old.reads name ≡ Some own → bytes ≡ own
-  pub left : Leaves new name (λ c. c ≡ bytes)
+  pub left : CrashLeaves new name (λ c. c ≡ bytes)
   pub are : P bytes
 
 -- What each answer says of the segment of this name, which stands behind a record of this stamp: what was found in its
 -- bytes, or where they are damaged. The other faults say nothing of it.
 abbrev pub ReadsSegment : Stamp → FileName → Disk → Disk → Result Found StoreFault → Type 0
-ReadsSegment before name old new (Ok found) = Reads name old new (IsFound before found)
-ReadsSegment before name old new (Err (Damaged file place)) = Reads name old new (IsDamaged before name file place)
+ReadsSegment before name old new (Ok found) = ReadsFile name old new (IsFound before found)
+ReadsSegment before name old new (Err (Damaged file place)) = ReadsFile name old new (IsDamaged before name file place)
 ReadsSegment before name old new (Err Failed) = Unit {0}
 ReadsSegment before name old new (Err NoMem) = Unit {0}
-
--- ---- laws
-
--- where a segment was found, each crash leaves its bodies and their end, so a log may be resumed behind them
-pub found_leaves : (before : Stamp) (name : FileName) (old new : Disk) (found : Found) (read : Reads name old new (IsFound before found)) → Leaves new name (EndsAt found.end (bodies_in read.bytes))
-found_leaves before name old new found read = record {
-  each = λ c image. subst (EndsAt found.end (bodies_in read.bytes)) (sym (read.left.each c image)) read.are.ends;
-}

@@ -6,7 +6,7 @@ use Rattle.kv_base.specs.Map.{Bytes}
 use Rattle.kv_base.specs.Fields.{text}
 use Rattle.kv_base.specs.FieldLaws.{length-text}
 use Rattle.gated_log.specs.Gated.{records, gated, EndsAt}
-use Rattle.gated_log.specs.Records.{ends_records}
+use Rattle.gated_log.specs.RecordLaws.{ends_records}
 use Rattle.batch_codec.specs.Batches.{Batch}
 use Rattle.batch_codec.specs.Bodies.{body_of, read_body}
 use Rattle.batch_codec.specs.BodyLaws.{IsWritable, body_is_read}

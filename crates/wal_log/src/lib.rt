@@ -8,8 +8,6 @@
 
 mod read;
 mod segment;
-#[cfg(test)]
-mod tests;
 
 pub use read::read_all;
 pub use segment::{Found, Records, Segment, Stamp};

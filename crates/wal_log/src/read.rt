@@ -13,10 +13,10 @@ use kv_outside::Files;
 use std::alloc::Global;
 
 /// Is the sequence one more than that of the last record, and the moment not below?
-fn is_next(last: Stamp, record: &Record) -> bool
-    ensures { result ≡ may_follow last record.now }
+fn is_next(last: Stamp, found: &Record) -> bool
+    ensures { result ≡ may_follow last found.now }
 {
-    record.seq.checked_sub(1) == Some(last.seq) && last.moment <= record.moment
+    found.seq.checked_sub(1) == Some(last.seq) && last.moment <= found.moment
 }
 
 /// The record with this body; `None` exactly where it may not stand behind the last one.

@@ -1,6 +1,6 @@
 use Rattle.std.proofs.Common.{◌∙◌, arith, length, drop}
 use Rattle.gated_log.proofs.Filling.{whole_read, leaves_read, still_durable, front_of}
-use Rattle.gated_log.proofs.Calls.{nothing_then}
+use Rattle.kv_outside.specs.RunLaws.{nothing_then}
 use Rattle.gated_log.proofs.read.read_file.Goals as goal
 
 pub returns-clause-durable : goal.returns-clause-durable

@@ -1,9 +1,9 @@
 use Rattle.std.proofs.Common.{◌+◌, arith}
 use Rattle.std.proofs.lemmas.List.{length-drop}
 use Rattle.std.proofs.lemmas.Result.{err_from_is_err_and}
-use Rattle.kv_outside.specs.Sent.{sent_more, kept_then}
-use Rattle.kv_outside.specs.Writing.{front_of}
-use Rattle.kv_outside.specs.Causes.{rose_since}
+use Rattle.kv_outside.specs.SentLaws.{sent_more, kept_then}
+use Rattle.kv_outside.specs.WritingLaws.{front_of}
+use Rattle.kv_outside.specs.CauseLaws.{rose_since}
 use Rattle.kv_outside.proofs.writing.write_all.Goals as goal
 
 pub loop-done-preserved : goal.loop-done-preserved

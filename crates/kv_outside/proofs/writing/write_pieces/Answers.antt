@@ -1,8 +1,8 @@
 use Rattle.std.proofs.Common.{◌+◌, take, drop, arith}
 use Rattle.std.proofs.lemmas.Result.{err_from_is_err_and}
 use Rattle.std.specs.List.{flat_map}
-use Rattle.kv_outside.specs.Writing.{front_then, pieces_at}
-use Rattle.kv_outside.specs.Causes.{rose_since}
+use Rattle.kv_outside.specs.WritingLaws.{front_then, pieces_at}
+use Rattle.kv_outside.specs.CauseLaws.{rose_since}
 use Rattle.kv_outside.proofs.writing.write_pieces.Goals as goal
 
 pub returns-in_err-write_all : goal.returns-in_err-write_all

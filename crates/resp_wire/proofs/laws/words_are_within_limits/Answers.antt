@@ -1,4 +1,4 @@
-use Rattle.resp_wire.specs.Written.{words_are_within_limits}
+use Rattle.resp_wire.specs.WrittenLaws.{words_are_within_limits}
 use Rattle.resp_wire.proofs.laws.words_are_within_limits.Goals as goal
 
 pub returns : goal.returns

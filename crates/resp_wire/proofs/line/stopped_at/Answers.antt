@@ -1,4 +1,4 @@
-use Rattle.resp_wire.specs.Lines.{line_ended, line_full, line_quoted}
+use Rattle.resp_wire.specs.LineLaws.{line_ended, line_full, line_quoted}
 use Rattle.resp_wire.proofs.line.stopped_at.Goals as goal
 
 pub returns-then-bytes-place-eq10 : goal.returns-then-bytes-place-eq10

@@ -1,5 +1,5 @@
 use Rattle.std.proofs.Common.{◌≤◌, [], drop, length, ◌-◌}
-use Rattle.resp_wire.specs.Reading.{Reads}
+use Rattle.resp_wire.specs.Reading.{ReadsRequest}
 use Rattle.resp_wire.specs.Held.{IsIdle}
 use Rattle.resp_wire.proofs.pending.begin.Given as goal
 
@@ -7,7 +7,7 @@ abbrev pub invariant-loop : goal.invariant-loop
 invariant-loop l = record {
   idle : IsIdle l.buf l.pending;
   forward : l.fn.pending.start ≤ l.pending.start;
-  skipped : Reads (drop l.fn.pending.start l.buf) [] (drop l.pending.start l.buf);
+  skipped : ReadsRequest (drop l.fn.pending.start l.buf) [] (drop l.pending.start l.buf);
 }
 
 abbrev pub decreases-loop : goal.decreases-loop

@@ -1,5 +1,5 @@
 use Rattle.std.proofs.Common.{refl}
-use Rattle.resp_wire.specs.Requests.{is_unfinished}
+use Rattle.resp_wire.specs.RequestLaws.{is_unfinished}
 use Rattle.resp_wire.proofs.WordsRead.{nothing_there}
 use Rattle.resp_wire.proofs.pending.open_next.Goals as goal
 

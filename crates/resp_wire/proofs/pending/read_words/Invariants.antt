@@ -1,10 +1,10 @@
 use Rattle.std.proofs.Common.{◌≡◌}
-use Rattle.resp_wire.specs.Held.{IsBegun}
+use Rattle.resp_wire.specs.Held.{HasHeader}
 use Rattle.resp_wire.proofs.pending.read_words.Given as goal
 
 abbrev pub invariant-loop-pending : goal.invariant-loop-pending
 invariant-loop-pending l = record {
-  begun : IsBegun l.buf l.pending;
+  begun : HasHeader l.buf l.pending;
   start : l.pending.start ≡ l.fn.pending.start;
 }
 

@@ -2,9 +2,9 @@ use Rattle.std.proofs.Common.{◌+◌, [], drop, sym, ap, subst, ◌∙◌, arit
 use Rattle.std.proofs.lemmas.Result.{err_from_is_err_and}
 use Rattle.std.specs.List.{flat_map}
 use Rattle.std.specs.Io.KnownBytes.{Appends}
-use Rattle.kv_outside.specs.Causes.{rose_since}
-use Rattle.kv_outside.specs.Sent.{nothing_sent, sent_then}
-use Rattle.kv_outside.specs.Writing.{front_then, writes_as}
+use Rattle.kv_outside.specs.CauseLaws.{rose_since}
+use Rattle.kv_outside.specs.SentLaws.{nothing_sent, sent_then}
+use Rattle.kv_outside.specs.WritingLaws.{front_then, writes_as}
 use Rattle.redis_model.specs.Render.{render}
 use Rattle.redis_model.specs.RenderLaws.{render-Ok, render-Pong, render-Null, render-NullArray, render-Array}
 use Rattle.resp_wire.proofs.ReplyPieces.{array_until, array_start, array_more, array_end, array_behind_part}

@@ -1,5 +1,5 @@
 use Rattle.std.proofs.Common.{◌∙◌}
-use Rattle.kv_outside.specs.Writing.{writes_as}
+use Rattle.kv_outside.specs.WritingLaws.{writes_as}
 use Rattle.resp_wire.proofs.ReplyPieces.{array_line_pieces}
 use Rattle.resp_wire.proofs.reply.write_array_line.Goals as goal
 

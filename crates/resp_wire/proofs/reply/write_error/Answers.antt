@@ -1,4 +1,4 @@
-use Rattle.kv_outside.specs.Writing.{writes_as}
+use Rattle.kv_outside.specs.WritingLaws.{writes_as}
 use Rattle.resp_wire.proofs.ReplyPieces.{error_pieces}
 use Rattle.resp_wire.proofs.reply.write_error.Goals as goal
 

@@ -2,7 +2,7 @@ use Rattle.std.proofs.Common.{ap, ◌∙◌}
 use Rattle.std.proofs.lemmas.Int.{to_z-of_z}
 use mir.Syntax.{w64}
 use Rattle.kv_base.specs.Number.{int_text}
-use Rattle.kv_outside.specs.Writing.{writes_as}
+use Rattle.kv_outside.specs.WritingLaws.{writes_as}
 use Rattle.resp_wire.proofs.ReplyPieces.{int_pieces}
 use Rattle.resp_wire.proofs.reply.write_int.Goals as goal
 

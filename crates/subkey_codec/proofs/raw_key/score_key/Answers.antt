@@ -3,7 +3,7 @@ use Rattle.std.specs.Prelude.{ℤ, IsTrue}
 use Rattle.kv_base.specs.Map.{Bytes}
 use Rattle.kv_base.specs.Fields.{u64}
 use Rattle.kv_base.specs.RawKeys.{ScoreKey, life_prefix, raw_text, is_raw_text, score_number, score_space}
-use Rattle.subkey_codec.specs.ElementKeys.{score_key_is_raw}
+use Rattle.subkey_codec.specs.ElementKeyLaws.{score_key_is_raw}
 use Rattle.subkey_codec.proofs.raw_key.score_key.Goals as goal
 
 -- the prefix, the score's number and the member, one behind the other

@@ -1,6 +1,6 @@
 use Rattle.std.proofs.Common.{◌+◌, ◌∙◌, ◌<◌, ◌≤◌, ap, arith, length, List, ℕ}
-use Rattle.kv_outside.specs.Told.{held_long, torn_long, told_leads}
-use Rattle.record_body.specs.Framed.{length-framed}
+use Rattle.kv_outside.specs.ToldLaws.{held_long, torn_long, told_leads}
+use Rattle.record_body.specs.FramedLaws.{length-framed}
 use Rattle.gated_log.specs.States.{LogState}
 use Rattle.gated_log.proofs.Calls.{on_err}
 use Rattle.gated_log.proofs.Keeping.{staged_tells, staged_rests, staged_run, staged_before, staged_either, whole_tells, whole_shows, left_rests, left_tells, gate_tells, gate_wavers, gate_run, gate_told, gate_shown, opened_at, append_run, behind_gate, still_at_gate}

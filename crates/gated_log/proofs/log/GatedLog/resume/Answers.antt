@@ -1,6 +1,6 @@
 use Rattle.std.proofs.Common.{sym}
 use Rattle.gated_log.specs.Gated.{EndsAt}
-use Rattle.kv_outside.specs.Told.{told_is}
+use Rattle.kv_outside.specs.ToldLaws.{told_is}
 use Rattle.gated_log.proofs.Keeping.{resume_run, resume_rests, agrees_named, durable_named}
 use Rattle.gated_log.proofs.log.GatedLog.resume.Goals as goal
 

@@ -1,5 +1,5 @@
 use Rattle.std.proofs.Common.{◌-◌, ◌∙◌, ℕ, List, ap, arith, take, drop}
-use Rattle.record_body.specs.Framed.{read_body}
+use Rattle.record_body.specs.FramedLaws.{read_body}
 use Rattle.record_body.proofs.body.RecordBody.bytes.Goals as goal
 
 pub returns-clause-bytes : goal.returns-clause-bytes

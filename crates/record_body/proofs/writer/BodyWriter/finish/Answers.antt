@@ -1,6 +1,7 @@
 use Rattle.std.proofs.Common.{◌∙◌, ◌-◌, ℕ, List, ◌++◌, ap, arith, length, drop}
 use Rattle.kv_base.specs.Fields.{u32}
-use Rattle.record_body.specs.Framed.{body_of, is_framed, body_of-framed}
+use Rattle.record_body.specs.Framed.{body_of}
+use Rattle.record_body.specs.FramedLaws.{is_framed, body_of-framed}
 use Rattle.record_body.proofs.Finished.{finished}
 use Rattle.record_body.proofs.writer.BodyWriter.finish.Goals as goal
 

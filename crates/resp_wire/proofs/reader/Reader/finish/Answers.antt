@@ -1,6 +1,6 @@
 use Rattle.std.proofs.Common.{length, sym, ap, ◌∙◌, arith}
 use Rattle.std.proofs.lemmas.List.{length-drop}
-use Rattle.resp_wire.specs.Holding.{unfinished_left}
+use Rattle.resp_wire.specs.HoldingLaws.{unfinished_left}
 use Rattle.resp_wire.proofs.reader.Reader.finish.Goals as goal
 
 pub returns-else-left-eq0-clause-end : goal.returns-else-left-eq0-clause-end

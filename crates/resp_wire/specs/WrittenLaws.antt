@@ -11,17 +11,19 @@ use Rattle.std.proofs.lemmas.List.{take-append-drop, length-take, length-take-le
 use Rattle.std.proofs.lemmas.List.Splits.{slice_split-cons_yes, slice_split-cons_no, length-slice_split}
 use Rattle.std.proofs.lemmas.List.Elements.{All-nil, All-cons}
 use Rattle.std.proofs.lemmas.List.Sums.{sum_by-cons}
-use Rattle.resp_wire.specs.declared.stop.FaultKind.TheVariants.{BadMark, BadLength, TooLong}
+use Rattle.resp_wire.specs.declared.stop.ProtocolFault.TheVariants.{BadMark, BadLength, TooLong}
 use Rattle.resp_wire.specs.declared.stop.Stop.{Stop}
 use Rattle.resp_wire.specs.declared.stop.Stop.TheVariants.{More, Bad}
-use Rattle.resp_wire.specs.declared.parts.Limit.{Limit}
-use Rattle.resp_wire.specs.declared.parts.Limit.TheVariants.{Words, Bytes}
+use Rattle.resp_wire.specs.declared.parts.LengthLimit.{LengthLimit}
+use Rattle.resp_wire.specs.declared.parts.LengthLimit.TheVariants.{Words, Bytes}
 use Rattle.resp_wire.specs.Grammar.{Part, End, requests, after_request, ◌>>=◌, star, dollar, carriage_return, line_feed, mark, line_end, exceeds, with_digit, text_end, length_from, length_text, body, bulk, bulks, minus_one, count, array, is_blank, is_word, line, line_words, inline, request}
-use Rattle.resp_wire.specs.Lines.{line_written}
-use Rattle.resp_wire.specs.Reading.{Reads}
-use Rattle.resp_wire.specs.Behind.{Shortens, request_shortens}
-use Rattle.resp_wire.specs.Requests.{requests_is}
-use Rattle.resp_wire.specs.Encoding.{small, length_line, word_text, request_text, null_text, cost, IsWithinLimits, IsRequest, OnlyTextsAreRead, WordsAreWithinLimits}
+use Rattle.resp_wire.specs.LineLaws.{line_written}
+use Rattle.resp_wire.specs.Reading.{ReadsRequest}
+use Rattle.resp_wire.specs.Behind.{Shortens}
+use Rattle.resp_wire.specs.BehindLaws.{request_shortens}
+use Rattle.resp_wire.specs.RequestLaws.{requests_is}
+use Rattle.resp_wire.specs.Encoding.{length_line, word_text, request_text, null_text, cost, IsWithinLimits, IsRequest, OnlyTextsAreRead, WordsAreWithinLimits}
+use Rattle.resp_wire.specs.EncodingLaws.{small}
 
 -- ---- what a part that was read goes back to
 
@@ -89,7 +91,7 @@ digit_added n c m e some low high small =
 first_digit : (c m : ℕ) → m ≡ 0 * 10 + (c - 48) → 48 ≤ c → c < 58 → decimal m ≡ c ∷ []
 first_digit c m e low high = let k : 48 + m ≡ c = omega arith in decimal_digit m (omega arith) ∙ ap (λ (d : ℕ). d ∷ []) k
 
-number_written : (limit : Limit) (left n : ℕ) (bytes : List ℕ) (m : ℕ) (rest : List ℕ) → exceeds limit n ≡ false → length_from limit left (Some n) bytes ≡ Ok (m, rest)
+number_written : (limit : LengthLimit) (left n : ℕ) (bytes : List ℕ) (m : ℕ) (rest : List ℕ) → exceeds limit n ≡ false → length_from limit left (Some n) bytes ≡ Ok (m, rest)
     → (exceeds limit m ≡ false) × (decimal n ++ bytes ≡ decimal m ++ carriage_return ∷ line_feed ∷ rest)
 unfolding length_from
 number_written limit left n [] m rest h e = absurd cc
@@ -107,7 +109,7 @@ number_written limit left n (c ∷ bytes) m rest h e = elim (if_ok (not (is_asci
       (on.0, sym (append_assoc (decimal n) (c ∷ []) bytes) ∙ ap (λ (d : List ℕ). d ++ bytes) (sym added) ∙ on.1)
 ]
 
-length_text_written : (limit : Limit) (bytes : List ℕ) (n : ℕ) (rest : List ℕ) → length_text limit bytes ≡ Ok (n, rest) → (exceeds limit n ≡ false) × (bytes ≡ decimal n ++ carriage_return ∷ line_feed ∷ rest)
+length_text_written : (limit : LengthLimit) (bytes : List ℕ) (n : ℕ) (rest : List ℕ) → length_text limit bytes ≡ Ok (n, rest) → (exceeds limit n ≡ false) × (bytes ≡ decimal n ++ carriage_return ∷ line_feed ∷ rest)
 unfolding length_text length_from text_end
 length_text_written limit [] n rest e = absurd cc
 length_text_written limit (c ∷ bytes) n rest e =
@@ -336,6 +338,6 @@ pub words_are_within_limits : WordsAreWithinLimits
 words_are_within_limits bytes = within_shorter (length bytes + 1) bytes (omega arith)
 
 -- the words that a reader hands out
-pub reads_within_limits : (old : List ℕ) (words : List (List ℕ)) (new : List ℕ) → Reads old words new → IsWithinLimits words
+pub reads_within_limits : (old : List ℕ) (words : List (List ℕ)) (new : List ℕ) → ReadsRequest old words new → IsWithinLimits words
 reads_within_limits old [] new reads = no_words
 reads_within_limits old (word ∷ words) new reads = subst (λ (found : List (List (List ℕ)) × End). All IsWithinLimits found.0) (reads []) (words_are_within_limits (old ++ [])) 0 [] (omega arith)

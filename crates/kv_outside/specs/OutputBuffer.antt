@@ -1,4 +1,4 @@
--- What an outlet is seen as.
+-- What an output is seen as.
 use Rattle.std.specs.Prelude.{ℕ, List}
 
 -- the bytes that wait, and how often there was no memory for more

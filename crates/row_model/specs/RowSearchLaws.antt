@@ -9,13 +9,14 @@ use Rattle.std.specs.Ordering.{nat_cmp, is_lt, is_eq, ordering_then}
 use Rattle.std.specs.Cmp.{tied_itself, eq_by_cmp_equiv}
 use Rattle.std.specs.Cmp.Lexicographic.{nat_list_cmp_total}
 use Rattle.std.proofs.lemmas.Bool.Decides.{nat_tests}
-use Rattle.kv_base.specs.Inversions.{both_first, both_second}
+use Rattle.kv_base.specs.InversionLaws.{both_first, both_second}
 use Rattle.kv_base.specs.Map.{Bytes, byte_cmp, same, same_is, kept}
 use Rattle.kv_base.specs.declared.row.Row.{Row}
 use Rattle.row_model.specs.Rows.{shown, newer, seen_at}
 use Rattle.row_model.specs.RowOrder.{row_cmp, leads, is_ordered, is_before, is_below}
 use Rattle.row_model.specs.RowLaws.{as_row, seen_is, shown_where, there_cases, there_never}
-use Rattle.row_model.specs.RowOrderLaws.{row_total, less}
+use Rattle.row_model.specs.RowOrderLaws.{row_total}
+use Rattle.kv_base.specs.TestLaws.{less_is as less}
 
 -- a row that leads others stands in front of each of them
 pub leads_each : (row : Row) (rows : List Row) (other : Row) → leads row rows ≡ true → Contains rows other → row_cmp row other ≡ Less

@@ -1,7 +1,7 @@
 -- Bytes that may not be told.
 use Rattle.std.proofs.Common.{◌≡◌, ℕ, ◌+◌, ◌≤◌, List, ◌++◌, length, take, drop, Option, Some, None, IfSome, refl, ◌∙◌, sym, ap, subst, arith, append_assoc, take-append-drop, length-append, length-drop}
 use Rattle.std.proofs.lemmas.List.{take_at, drop_at, length-take-le, drop-drop, take-take}
-use Rattle.kv_outside.specs.Files.{Goes, Holds, Torn}
+use Rattle.kv_outside.specs.Files.{Goes, HasWritten, Torn}
 
 -- what the step keeps is kept where it is told
 pub goes_keeps : (step : List ℕ → List ℕ → Type 0) (P Q : List ℕ → Type 0) → ((d c : List ℕ) → P d → step d c → Q c)
@@ -14,7 +14,7 @@ told_leads P Q leads None was = tt
 told_leads P Q leads (Some c) was = leads c was
 
 -- a write behind what stands there
-pub holds_at : (at : ℕ) (front rest bytes old new : List ℕ) → old ≡ front ++ rest → length front ≡ at → Holds at bytes old new → new ≡ front ++ (bytes ++ drop (length bytes) rest)
+pub holds_at : (at : ℕ) (front rest bytes old new : List ℕ) → old ≡ front ++ rest → length front ≡ at → HasWritten at bytes old new → new ≡ front ++ (bytes ++ drop (length bytes) rest)
 holds_at at front rest bytes old new is long holds =
     let first : take at old ≡ front = ap (λ (l : List ℕ). take at l) is ∙ take_at front rest at long in
     let behind : drop at old ≡ rest = ap (λ (l : List ℕ). drop at l) is ∙ drop_at front rest at long in
@@ -22,7 +22,7 @@ holds_at at front rest bytes old new is long holds =
     holds ∙ cc (append_assoc front bytes (drop (length bytes) rest))
 
 -- a write that is done is one that may be cut short
-pub torn_of_holds : (at : ℕ) (bytes old new : List ℕ) → at ≤ length old → Holds at bytes old new → Torn at (length bytes) old new
+pub torn_of_holds : (at : ℕ) (bytes old new : List ℕ) → at ≤ length old → HasWritten at bytes old new → Torn at (length bytes) old new
 torn_of_holds at bytes old new in_range holds =
     let front = take at old in
     let rest = drop at old in
@@ -50,11 +50,11 @@ torn_behind at n front rest old new is long torn =
 pub torn_long : (at n k : ℕ) (old new : Option (List ℕ)) → Goes (Torn at n) old new → IfSome old (λ d. k ≤ length d) → IfSome new (λ c. k ≤ length c)
 torn_long at n k old new goes was = goes_keeps (Torn at n) (λ d. k ≤ length d) (λ c. k ≤ length c) (λ d c le torn. omega (arith, le, torn.no_shorter)) old new goes was
 
-pub held_long : (at : ℕ) (bytes : List ℕ) (old new : Option (List ℕ)) → Goes (Holds at bytes) old new → IfSome old (λ d. at ≤ length d) → IfSome new (λ c. at + length bytes ≤ length c)
-held_long at bytes old new goes was = goes_keeps (Holds at bytes) (λ d. at ≤ length d) (λ c. at + length bytes ≤ length c)
+pub held_long : (at : ℕ) (bytes : List ℕ) (old new : Option (List ℕ)) → Goes (HasWritten at bytes) old new → IfSome old (λ d. at ≤ length d) → IfSome new (λ c. at + length bytes ≤ length c)
+held_long at bytes old new goes was = goes_keeps (HasWritten at bytes) (λ d. at ≤ length d) (λ c. at + length bytes ≤ length c)
     (λ d c le holds. omega (arith, ap length (holds_at at (take at d) (drop at d) bytes d c (sym (take-append-drop at d)) (length-take-le at d le) holds), length-append (take at d) (bytes ++ drop (length bytes) (drop at d)), length-append bytes (drop (length bytes) (drop at d)), length-take-le at d le)) old new goes was
 
-pub torn_of_held : (at : ℕ) (bytes : List ℕ) (old new : Option (List ℕ)) → IfSome old (λ d. at ≤ length d) → Goes (Holds at bytes) old new → Goes (Torn at (length bytes)) old new
+pub torn_of_held : (at : ℕ) (bytes : List ℕ) (old new : Option (List ℕ)) → IfSome old (λ d. at ≤ length d) → Goes (HasWritten at bytes) old new → Goes (Torn at (length bytes)) old new
 torn_of_held at bytes None new in_range goes = goes
 torn_of_held at bytes (Some d) new in_range goes = (goes.0, goes.1, torn_of_holds at bytes d goes.0 in_range goes.2)
 

@@ -5,8 +5,9 @@ use Rattle.std.proofs.lemmas.Bool.{cases_eq}
 use Rattle.std.proofs.lemmas.Bool.Decides.{nat_tests}
 use Rattle.kv_base.specs.Fields.{u32, text}
 use Rattle.kv_base.specs.FieldLaws.{length-u32, length-text}
-use Rattle.record_body.specs.Framed.{number_of, framed, number_of-u32}
-use Rattle.gated_log.specs.Gated.{open_bodies, records, gated, AllFit, IsEnd, EndsAt, IsShut, IsTried, HasShutGate, IsBeforeOrAfter}
+use Rattle.record_body.specs.Framed.{number_of, framed}
+use Rattle.record_body.specs.FramedLaws.{number_of-u32}
+use Rattle.gated_log.specs.Gated.{open_bodies, records, gated, AllFit, IsEndOfRecords, EndsAt, IsShut, IsTried, HasShutGate, HasRecordsOrOneMore}
 
 -- any number that is not below the file's length serves
 open_bodies_same : (m n : ℕ) (file : List ℕ) → length file ≤ m → length file ≤ n → open_bodies m file ≡ open_bodies n file
@@ -103,12 +104,12 @@ AllFit-push [] body fit fits = (fits, tt)
 AllFit-push (b ∷ bodies) body fit fits = (fit.0, AllFit-push bodies body fit.1 fits)
 
 -- where no record is, the end is at 0
-pub end_none : IsEnd 0 []
+pub end_none : IsEndOfRecords 0 []
 unfolding gated
 end_none = record { fits = tt; place = refl }
 
 -- the end moves by the record's length: a gate, four bytes and the body
-pub end_more : (end : ℕ) (bodies : List (List ℕ)) (body : List ℕ) → IsEnd end bodies → length body < 2 ^ 32 → IsEnd (end + 5 + length body) (bodies ++ body ∷ [])
+pub end_more : (end : ℕ) (bodies : List (List ℕ)) (body : List ℕ) → IsEndOfRecords end bodies → length body < 2 ^ 32 → IsEndOfRecords (end + 5 + length body) (bodies ++ body ∷ [])
 end_more end bodies body at fits = record {
   fits = AllFit-push bodies body at.fits fits;
   place = omega (arith, at.place, length-gated-push bodies body);
@@ -140,7 +141,7 @@ shut_here end bodies d ends gate = record {
   is = ends.is ∙ ap (λ (l : List ℕ). gated bodies ++ l) (sym (tail_at end bodies d ends) ∙ gate.is);
 }
 
-pub tried_records : (end : ℕ) (bodies : List (List ℕ)) (body file : List ℕ) → IsTried end bodies body file → IsBeforeOrAfter bodies body file
+pub tried_records : (end : ℕ) (bodies : List (List ℕ)) (body file : List ℕ) → IsTried end bodies body file → HasRecordsOrOneMore bodies body file
 unfolding framed
 tried_records end bodies body file tried = elim (cases_eq tried.gate 1) [
   | inl is_open ↦

@@ -2,7 +2,7 @@
 use Rattle.std.proofs.Common.{◌≡◌, ◌≢◌, ⊎_elim, Option, ℕ, ◌<◌, ◌≤◌, List, refl, ◌∙◌, sym, subst, arith}
 use Rattle.std.proofs.lemmas.Bool.{cases_lt}
 use Rattle.kv_base.specs.declared.name.FileName.{FileName}
-use Rattle.kv_outside.specs.Disk.{Disk, IsImage, GoesOn, NothingNew, Changes, Leaves, Agrees, Touches, Always}
+use Rattle.kv_outside.specs.Disk.{Disk, IsImage, GoesOn, NothingNew, Changes, CrashLeaves, Agrees, Touches, Always}
 
 pub stays : (disk : Disk) → GoesOn disk disk
 stays disk = record {
@@ -58,7 +58,7 @@ no_change at step disk = record {
 -- ---- runs on one file
 
 -- before the first call
-pub begin_run : (at : FileName) (disk : Disk) (P : List ℕ → Type 0) → Leaves disk at P → Touches at disk disk P
+pub begin_run : (at : FileName) (disk : Disk) (P : List ℕ → Type 0) → CrashLeaves disk at P → Touches at disk disk P
 begin_run at disk P here = record {
   goes_on = stays disk;
   own = λ k c from to image. let same : k ≡ disk.moment = omega arith in here.each c (subst (λ (n : ℕ). disk.images n at c) same image);
@@ -83,7 +83,7 @@ run_then at old mid new P first second = record {
 
 -- one call that changes the file
 pub run_change : (at : FileName) (step : List ℕ → List ℕ → Type 0) (old new : Disk) (P : List ℕ → Type 0) → Changes at step old new
-    → Leaves old at P → ((d c : List ℕ) → P d → step d c → P c) → Touches at old new P
+    → CrashLeaves old at P → ((d c : List ℕ) → P d → step d c → P c) → Touches at old new P
 run_change at step old new P call here next = record {
   goes_on = call.goes_on;
   own = λ k c from to image. ⊎_elim
@@ -107,7 +107,7 @@ nothing_changes at old new call = record {
 }
 
 -- one call that changes nothing
-pub run_nothing : (at : FileName) (old new : Disk) (P : List ℕ → Type 0) → NothingNew old new → Leaves old at P → Touches at old new P
+pub run_nothing : (at : FileName) (old new : Disk) (P : List ℕ → Type 0) → NothingNew old new → CrashLeaves old at P → Touches at old new P
 run_nothing at old new P call here =
     run_change at (λ d c. c ≡ d) old new P (nothing_changes at old new call) here (λ d c was same. subst P (back d c same) was)
   where
@@ -124,11 +124,11 @@ run_weaken at old new P Q run leads = record {
 }
 
 -- what a crash may leave of the file when the run has ended
-pub at_end : (at : FileName) (old new : Disk) (P : List ℕ → Type 0) → Touches at old new P → Leaves new at P
+pub at_end : (at : FileName) (old new : Disk) (P : List ℕ → Type 0) → Touches at old new P → CrashLeaves new at P
 at_end at old new P run = record { each = λ c image. run.own new.moment c run.goes_on.later (omega arith) image }
 
 -- what it might leave when the run began
-pub at_start : (at : FileName) (old new : Disk) (P : List ℕ → Type 0) → Touches at old new P → Leaves old at P
+pub at_start : (at : FileName) (old new : Disk) (P : List ℕ → Type 0) → Touches at old new P → CrashLeaves old at P
 at_start at old new P run = record {
   each = λ c image. run.own old.moment c (omega arith) run.goes_on.later (run.goes_on.kept old.moment at c (omega arith) image);
 }
@@ -148,7 +148,7 @@ pub agrees_still : (name : FileName) (old new : Disk) (held now : Option (List �
 agrees_still name old new held now reads same agrees = record { told = λ bytes is. same ∙ agrees.told bytes (sym reads ∙ is) }
 
 -- what a run on one file leaves of another
-pub others_leave : (at name : FileName) (old new : Disk) (Q : List ℕ → Type 0) (P : List ℕ → Type 0) → name ≢ at → Touches at old new P → Leaves old name Q → Leaves new name Q
+pub others_leave : (at name : FileName) (old new : Disk) (Q : List ℕ → Type 0) (P : List ℕ → Type 0) → name ≢ at → Touches at old new P → CrashLeaves old name Q → CrashLeaves new name Q
 others_leave at name old new Q P other run leaves = record { each = λ c image. leaves.each c (run.others new.moment name c other run.goes_on.later (omega arith) image) }
 
 -- a log of another file, which agreed before the run

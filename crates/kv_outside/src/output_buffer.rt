@@ -10,26 +10,26 @@ use std::marker::Model;
 /// Bytes that wait in memory to be passed on to a sink, so that many small writes become few large ones. It keeps its
 /// memory for what comes next.
 #[derive(Drop)]
-pub struct Outlet {
+pub struct OutputBuffer {
     bytes: Vec<u8>,
     faults: u64,
 }
 
-impl Model for Outlet {
-    ghost use Rattle.kv_outside.specs.Outlet.{Waiting};
+impl Model for OutputBuffer {
+    ghost use Rattle.kv_outside.specs.OutputBuffer.{Waiting};
 
     ghost Value = { Waiting };
 
     ghost view = { λ o. record { bytes = o.bytes.items; faults = o.faults } };
 }
 
-impl Outlet {
-    /// An outlet in which nothing waits.
-    pub fn new(alloc: Global) -> Outlet
+impl OutputBuffer {
+    /// An output in which nothing waits.
+    pub fn new(alloc: Global) -> OutputBuffer
         ensures bytes { result.bytes ≡ [] }
         ensures faults { result.faults ≡ 0 }
     {
-        Outlet {
+        OutputBuffer {
             bytes: Vec::new(alloc),
             faults: 0,
         }
@@ -63,7 +63,7 @@ impl Outlet {
 }
 
 /// A write fails where there is no memory for the piece, and takes all of it else.
-impl Sink for Outlet {
+impl Sink for OutputBuffer {
     ghost use Rattle.std.specs.Prelude.{Some};
 
     ghost held = { λ o. Some o.bytes };

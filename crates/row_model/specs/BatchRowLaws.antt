@@ -7,7 +7,7 @@ use Rattle.std.specs.declared.cmp.Ordering.{Ordering}
 use Rattle.std.specs.declared.cmp.Ordering.TheVariants.{Less, Equal, Greater}
 use Rattle.std.specs.Ordering.{is_lt, is_eq}
 use Rattle.kv_base.specs.Map.{Bytes, byte_cmp, same, same_is, same_itself, get}
-use Rattle.batch_codec.specs.Batches.{Entry, Batch}
+use Rattle.batch_codec.specs.Batches.{BatchEntry, Batch}
 use Rattle.kv_base.specs.declared.row.Row.{Row}
 use Rattle.row_model.specs.Rows.{row_of, batch_rows}
 use Rattle.row_model.specs.RowLaws.{there_cases, there_never}
@@ -28,14 +28,14 @@ less Equal p = absurd p
 less Greater p = absurd p
 
 -- a raw key below all of a list is not found there
-none_below : (q : Bytes) (es : List Entry) → T (below_all byte_cmp q es) → find byte_cmp q es ≡ None
+none_below : (q : Bytes) (es : List BatchEntry) → T (below_all byte_cmp q es) → find byte_cmp q es ≡ None
 none_below q [] h = refl
 none_below q (e ∷ es) h =
     ap (λ (r : Ordering). cond (is_eq r) (Some e.1) (find byte_cmp q es)) (less (byte_cmp q e.0) (first (is_lt (byte_cmp q e.0)) (below_all byte_cmp q es) h))
     ∙ none_below q es (second (is_lt (byte_cmp q e.0)) (below_all byte_cmp q es) h)
 
 -- a row of a sorted list of entries is found at its raw key
-found_entry : (seq : ℕ) (es : List Entry) (row : Row) → T (is_sorted byte_cmp es) → Contains (map (row_of seq) es) row → (row.seq ≡ seq) × (find byte_cmp row.raw es ≡ Some row.value)
+found_entry : (seq : ℕ) (es : List BatchEntry) (row : Row) → T (is_sorted byte_cmp es) → Contains (map (row_of seq) es) row → (row.seq ≡ seq) × (find byte_cmp row.raw es ≡ Some row.value)
 found_entry seq [] row sorted there = absurd (there_never row there)
 found_entry seq (e ∷ es) row sorted there =
     by_place (λ behind. found_entry seq es row (second (below_all byte_cmp e.0 es) (is_sorted byte_cmp es) sorted) behind) (there_cases (map (row_of seq) es) row (row_of seq e) there)

@@ -1,10 +1,10 @@
 -- What stays as it was for a log while other files change, or none does.
 use Rattle.std.proofs.Common.{◌≡◌, ◌≢◌, List, ℕ, Option, refl}
 use Rattle.kv_base.specs.declared.name.FileName.{FileName}
-use Rattle.kv_outside.specs.Disk.{Disk, NothingNew, Touches, Leaves}
-use Rattle.kv_outside.specs.Runs.{run_nothing, at_end, agrees_still, others_leave, others_agree}
-use Rattle.gated_log.specs.Gated.{records, IsBeforeOrAfter}
-use Rattle.gated_log.specs.Records.{shut_records, tried_records}
+use Rattle.kv_outside.specs.Disk.{Disk, NothingNew, Touches, CrashLeaves}
+use Rattle.kv_outside.specs.RunLaws.{run_nothing, at_end, agrees_still, others_leave, others_agree}
+use Rattle.gated_log.specs.Gated.{records, HasRecordsOrOneMore}
+use Rattle.gated_log.specs.RecordLaws.{shut_records, tried_records}
 use Rattle.gated_log.specs.States.{LogState, Shows, Rests, Wavers}
 
 -- a run on another file
@@ -22,8 +22,8 @@ shows_after name old new Q held call shows = record {
 }
 
 -- the records that a crash now leaves
-pub rests_records : (disk : Disk) (log : LogState) (bodies : List (List ℕ)) → Rests disk log bodies → Leaves disk log.name (λ c. records c ≡ bodies)
+pub rests_records : (disk : Disk) (log : LogState) (bodies : List (List ℕ)) → Rests disk log bodies → CrashLeaves disk log.name (λ c. records c ≡ bodies)
 rests_records disk log bodies rests = record { each = λ c image. shut_records log.end bodies c (rests.images.each c image) }
 
-pub wavers_records : (disk : Disk) (log : LogState) (bodies : List (List ℕ)) (body : List ℕ) → Wavers disk log bodies body → Leaves disk log.name (IsBeforeOrAfter bodies body)
+pub wavers_records : (disk : Disk) (log : LogState) (bodies : List (List ℕ)) (body : List ℕ) → Wavers disk log bodies body → CrashLeaves disk log.name (HasRecordsOrOneMore bodies body)
 wavers_records disk log bodies body wavers = record { each = λ c image. tried_records log.end bodies body c (wavers.images.each c image) }
