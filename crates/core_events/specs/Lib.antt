@@ -1,0 +1,10 @@
+pub mod GoingLaws
+pub mod RaisingLaws
+pub mod AppendingLaws
+pub mod CommittingLaws
+pub mod PinningLaws
+pub mod ReplacingLaws
+pub mod FlushingLaws
+pub mod ListLaws
+pub mod SwappingLaws
+pub mod CompactingLaws

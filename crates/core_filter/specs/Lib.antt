@@ -1,0 +1,4 @@
+pub mod WatchingLaws
+pub mod PlacingLaws
+pub mod FilteringLaws
+pub mod RunLaws

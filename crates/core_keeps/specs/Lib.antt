@@ -1,0 +1,9 @@
+pub mod Keeps
+pub mod KeptBy
+pub mod Recovered
+pub mod CleanAfterLaws
+pub mod KeepLaws
+pub mod KeepRunLaws
+pub mod AttemptLaws
+pub mod TriedLaws
+pub mod RecoveredLaws

@@ -1,0 +1,15 @@
+pub mod Sources
+pub mod Places
+pub mod Core
+pub mod Stands
+pub mod Events
+pub mod Runs
+pub mod Filtered
+pub mod Opened
+pub mod OpenJobs
+pub mod RowsLaws
+pub mod AlikeLaws
+pub mod PlacesLaws
+pub mod PlanRowLaws
+pub mod OpenedLaws
+pub mod OpenJobLaws

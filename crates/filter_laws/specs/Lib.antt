@@ -1,0 +1,14 @@
+pub mod Watchers
+pub mod Kept
+pub mod Verdict
+pub mod Replaced
+pub mod Filtered
+pub mod IssuedInputs
+pub mod KeptRowLaws
+pub mod VerdictLaws
+pub mod KeptLaws
+pub mod KeptCleanLaws
+pub mod DeadLifeLaws
+pub mod FilteredLaws
+pub mod IssuedInputLaws
+pub mod NextNewerLaws
