@@ -1,0 +1,16 @@
+pub mod BlockBodies
+pub mod BlockBodyLaws
+pub mod BlockLaws
+pub mod BlockLists
+pub mod BlockListLaws
+pub mod Blocks
+pub mod Filter
+pub mod FilterLaws
+pub mod Index
+pub mod IndexLaws
+pub mod RowTextLaws
+pub mod RowTexts
+pub mod SeekLaws
+pub mod Seeking
+pub mod TableExampleLaws
+pub mod Tables
