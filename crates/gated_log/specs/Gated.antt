@@ -67,3 +67,7 @@ HasNoShutGate at file = (drop at file ≡ []) ⊎ ((rest : List ℕ) × (drop at
 -- the records are these, or these and one more
 abbrev pub HasRecordsOrOneMore : List (List ℕ) → List ℕ → List ℕ → Type 0
 HasRecordsOrOneMore bodies body file = (records file ≡ bodies) ⊎ (records file ≡ bodies ++ body ∷ [])
+
+-- the records are these, or none
+abbrev pub HasRecordsOrNone : List (List ℕ) → List ℕ → Type 0
+HasRecordsOrNone bodies file = (records file ≡ bodies) ⊎ (records file ≡ [])

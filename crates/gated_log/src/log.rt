@@ -1,10 +1,10 @@
 ghost use Rattle.std.specs.Prelude.{◌≡◌, ◌≤◌, ◌<◌, ◌+◌, [], ◌∷◌, ◌++◌, true, false, List, ℕ, length, Some, IfOk, OnOk, OnErr, IfSome};
 ghost use Rattle.kv_outside.specs.Causes.{HasCause};
 ghost use Rattle.kv_outside.specs.Disk.{Agrees, IsDurable, CrashLeaves, Touches};
-ghost use Rattle.gated_log.specs.Gated.{records, EndsAt, HasShutGate, HasRecordsOrOneMore};
+ghost use Rattle.gated_log.specs.Gated.{records, EndsAt, HasShutGate, HasRecordsOrNone, HasRecordsOrOneMore};
 ghost use Rattle.gated_log.specs.States.{Rests, Wavers, IsLeft, Tells, TellsTried, TellsLeft};
 
-use crate::steps::{OPEN, SHUT, close_end, open_empty, open_synced, store};
+use crate::steps::{OPEN, SHUT, close_end, close_first, open_empty, open_synced, store};
 use kv_base::FileName;
 use kv_outside::{Failed, Files};
 use record_body::RecordBody;
@@ -83,6 +83,28 @@ impl<F: Files> GatedLog<F> {
         Ok(GatedLog {
             log,
             end,
+            unsure: false,
+        })
+    }
+
+    /// Opens the file again without its records, for appending from its start on: it syncs the file, and where the byte at
+    /// 0 is 01 or not there it writes 00 there and syncs again.
+    pub fn reset(files: &mut F, name: FileName) -> Result<Self, Failed>
+        ensures rests { IfOk result (λ log. Rests (F.disk files.new) log []) }
+        ensures told { IfOk result (λ log. Tells log []) }
+        ensures end { IfOk result (λ log. log.end ≡ 0) }
+        ensures sure { IfOk result (λ log. log.unsure ≡ false) }
+        ensures name { IfOk result (λ log. log.name ≡ name) }
+        // At every moment of the call each image has the records from before it, or none.
+        ensures any_moment { (bodies : List (List ℕ)) → CrashLeaves (F.disk files.old) name (λ c. records c ≡ bodies)
+            → Touches name (F.disk files.old) (F.disk files.new) (HasRecordsOrNone bodies) }
+        ensures cause { HasCause (F.faults files.old) (F.faults files.new) result }
+    {
+        let mut log = open_synced(files, name)?;
+        close_first(files, &mut log)?;
+        Ok(GatedLog {
+            log,
+            end: 0,
             unsure: false,
         })
     }

@@ -2,7 +2,7 @@
 ghost use Rattle.std.specs.Prelude.{◌≡◌, ◌≤◌, ◌<◌, ◌+◌, ◌^◌, [], ◌∷◌, ◌++◌, List, ℕ, length, Option, IfOk, OnOk, IfSome, MatchBool};
 ghost use Rattle.kv_outside.specs.Causes.{HasCause};
 ghost use Rattle.kv_outside.specs.Disk.{Touches, NothingNew, Agrees, CrashLeaves, IsDurable};
-ghost use Rattle.gated_log.specs.Gated.{EndsAt, IsShut, HasShutGate, HasNoShutGate};
+ghost use Rattle.gated_log.specs.Gated.{records, EndsAt, HasRecordsOrNone, IsShut, HasShutGate, HasNoShutGate};
 ghost use Rattle.gated_log.specs.States.{Shows};
 ghost use Rattle.gated_log.specs.Steps.{TriesAt, Stores};
 
@@ -106,4 +106,23 @@ pub(crate) fn close_end<F: Files>(files: &mut F, log: &mut F::Log, end: u64) -> 
     }
     store(files, log, place, &[SHUT])?;
     Ok(place)
+}
+
+/// Closes the first gate, where it is open or not there, and syncs. A gate that is closed is not written.
+pub(crate) fn close_first<F: Files>(files: &mut F, log: &mut F::Log) -> Result<(), Failed>
+    ensures any_moment { (bodies : List (List ℕ)) → IsDurable (F.disk files.old) (F.name_of log.old) (F.bytes_of log.old)
+        → CrashLeaves (F.disk files.old) (F.name_of log.old) (λ c. records c ≡ bodies)
+        → Touches (F.name_of log.old) (F.disk files.old) (F.disk files.new) (HasRecordsOrNone bodies) }
+    ensures told { OnOk result (IfSome (F.bytes_of log.new) (IsShut 0 [])) }
+    ensures rests { OnOk result (Agrees (F.disk files.old) (F.name_of log.old) (F.bytes_of log.old)
+        → IsDurable (F.disk files.old) (F.name_of log.old) (F.bytes_of log.old)
+        → Shows (F.disk files.new) (F.name_of log.old) (F.bytes_of log.new) (IsShut 0 [])) }
+    ensures in_range { OnOk result (IfSome (F.bytes_of log.new) (λ d. 0 < length d)) }
+    ensures name { F.name_of log.new ≡ F.name_of log.old }
+    ensures cause { HasCause (F.faults files.old) (F.faults files.new) result }
+{
+    if is_shut(files, log, 0)? {
+        return Ok(());
+    }
+    store(files, log, 0, &[SHUT])
 }
