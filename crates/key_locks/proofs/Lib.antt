@@ -1,0 +1,5 @@
+pub mod Lists
+pub mod Steps
+pub mod Places
+pub mod Meetings
+pub mod Rows

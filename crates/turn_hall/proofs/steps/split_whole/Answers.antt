@@ -1,0 +1,6 @@
+use Rattle.turn_hall.specs.Places.{by_of}
+use Rattle.turn_hall.proofs.Moves.{splits_whole}
+use Rattle.turn_hall.proofs.steps.split_whole.Goals as goal
+
+pub split_seat-requires : goal.split_seat-requires
+split_seat-requires c = (c.requires.0, c.requires.1, splits_whole by_of _ _)

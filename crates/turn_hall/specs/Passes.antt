@@ -1,0 +1,13 @@
+-- Passes, as contracts see them.
+use Rattle.std.specs.Prelude.{ℕ, List}
+
+-- a pass: its number, up to which number it may hand out, and what it has seen
+pub record PassOf (E : Type 0) : Type 0 where
+  pub number : ℕ
+  pub free : ℕ
+  pub seen : List E
+
+-- what lies under the lock: the state, and the history for which it stands
+pub record RecordedOf (C E : Type 0) : Type 0 where
+  pub state : C
+  pub history : List E
