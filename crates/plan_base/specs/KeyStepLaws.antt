@@ -97,7 +97,7 @@ idle_step {c} {t} {m} fresh d answer means none reply =
 -- ---- one key
 
 -- the only key that is touched
-touched_one : (m n : RedisMap) (t : ℕ) (d : Command) (k : Bytes) (answer : Reply) (q : Bytes) → carried_out m t d ≡ Ok (answer, n) → keys_of d ≡ k ∷ [] → IsTrue (is_touched m n d k) → touches m t d q ≡ same q k
+pub touched_one : (m n : RedisMap) (t : ℕ) (d : Command) (k : Bytes) (answer : Reply) (q : Bytes) → carried_out m t d ≡ Ok (answer, n) → keys_of d ≡ k ∷ [] → IsTrue (is_touched m n d k) → touches m t d q ≡ same q k
 touched_one m n t d k answer q is one touch =
     among_touched_done m t d (answer, n) q is
     ∙ ap (λ ks. is_touched m n d q && among ks q) one
