@@ -1,9 +1,8 @@
-//! Tests of the libraries below the server, over their public items: what no contract can say, and values from outside.
-//! Whole runs are data of `kv_transcripts`; tests over real files and the system's clock are in `kv_tests_files`.
+//! Tests of formats, words and the wire, over public items: what no contract can say, and values from outside. Whole runs
+//! are data of `kv_transcripts`; tests of what a store is made of are in `kv_tests_store`, and those over real files and
+//! the system's clock in `kv_tests_files`.
 #![tactic(auto)]
 
-#[cfg(test)]
-mod batches;
 #[cfg(test)]
 mod command_lines;
 #[cfg(test)]
@@ -11,13 +10,7 @@ mod copies;
 #[cfg(test)]
 mod crashes;
 #[cfg(test)]
-mod list_view;
-#[cfg(test)]
-mod memtables;
-#[cfg(test)]
 mod numbers;
-#[cfg(test)]
-mod plan_rows;
 #[cfg(test)]
 mod raw_keys;
 #[cfg(test)]
