@@ -22,6 +22,7 @@ fi
 python3 - "$program" "$memory" "$disk" <<'PYTHON'
 import os
 import shutil
+import statistics
 import struct
 import subprocess
 import sys
@@ -104,31 +105,47 @@ def loop(folder, count):
     return took / count
 
 
-def measure(parent, count, sets, gets):
-    folder = os.path.join(parent, "store")
-    make_log(folder, count)
-    session = Session(folder)
-    held = session.kilobytes("VmRSS")
-    keys = [b"key:%07d" % (i * 104729 % count) for i in range(max(sets, gets))]
-    set_time = each(session, [request(b"SET", key, b"%07d" % i) for i, key in enumerate(keys[:sets])])
-    get_time = each(session, [request(b"GET", key) for key in keys[:gets]])
-    found = session.opened, held, session.kilobytes("VmHWM"), set_time, get_time, loop(folder, sets)
-    session.end()
-    return found
+def in_memory():
+    """What a write and a read cost where a sync costs nothing, and what a row takes."""
+    empty = first = None
+    for count in COUNTS:
+        folder = os.path.join(memory, "store")
+        make_log(folder, count)
+        session = Session(folder)
+        held = session.kilobytes("VmRSS")
+        keys = [b"key:%07d" % (i * 104729 % count) for i in range(10_000)]
+        set_time = each(session, [request(b"SET", key, b"%07d" % i) for i, key in enumerate(keys[:1_000])])
+        get_time = each(session, [request(b"GET", key) for key in keys])
+        peak = session.kilobytes("VmHWM")
+        session.end()
+        first = first or (set_time, get_time)
+        empty = empty or held
+        row = "%.0f bytes a row" % ((held - empty) * 1024 / count) if count >= 100_000 else ""
+        ratios = set_time / first[0], get_time / first[1]
+        print("in memory   %9d rows   opened in %6.3f s   a SET %6.1f us (x%.2f)   a GET %5.2f us (x%.2f)   %6.1f MB, at most %6.1f MB   %s"
+              % (count, session.opened, set_time * 1e6, ratios[0], get_time * 1e6, ratios[1], held / 1024, peak / 1024, row), flush=True)
 
 
-empty = None
-for name, parent in (("in memory", memory), ("on the disk", disk)):
-    first = None
-    for count in (1_000, 10_000, 100_000, 1_000_000):
-        opened, held, peak, set_time, get_time, loop_time = measure(parent, count, 1_000, 10_000)
-        if first is None:
-            first = set_time, get_time
-        empty = held if empty is None else empty
-        row = (held - empty) * 1024 / count
-        print(
-            "%-12s %9d rows   opened in %7.3f s   a SET %9.1f us (x%.2f, of the loop x%.2f)   a GET %6.2f us (x%.2f)   %7.1f MB, at most %7.1f MB   %s"
-            % (name, count, opened, set_time * 1e6, set_time / first[0], set_time / loop_time, get_time * 1e6, get_time / first[1], held / 1024, peak / 1024,
-               "%.0f bytes a row" % row if count >= 100_000 else "")
-        , flush=True)
+def on_the_disk():
+    """Durable SETs, in rounds that go from store to store and then to the loop, since a disk has its moods: medians."""
+    sessions = {}
+    for count in COUNTS:
+        make_log(os.path.join(disk, str(count)), count)
+        sessions[count] = Session(os.path.join(disk, str(count)))
+    times, loops = {count: [] for count in COUNTS}, []
+    for turn in range(20):
+        for count, session in sessions.items():
+            keys = [b"key:%07d" % ((i * 104729 + turn * 31) % count) for i in range(200)]
+            times[count].append(each(session, [request(b"SET", key, b"%07d" % turn) for key in keys]))
+        loops.append(loop(disk, 200))
+    for count, session in sessions.items():
+        session.end()
+        took = statistics.median(times[count])
+        first = statistics.median(times[COUNTS[0]])
+        print("on the disk %9d rows   a SET %6.1f us (x%.2f, of the loop x%.2f)" % (count, took * 1e6, took / first, took / statistics.median(loops)), flush=True)
+
+
+COUNTS = (1_000, 10_000, 100_000, 1_000_000)
+in_memory()
+on_the_disk()
 PYTHON
