@@ -251,8 +251,8 @@ durable "durable INCRs" incrs 1000
 durable "durable MSETs of 10 keys" msets 1000
 durable "durable DELs" dels 1000 filling
 
-# many NAME KIND COUNT HALF [BEFORE]: one command with so many keys, and one with half as many. Each is the best of three
-# runs, less the time in which the same store is opened and nothing asked. Requests of the kind BEFORE are carried out first.
+# many NAME KIND COUNT HALF [BEFORE]: one command with so many keys, and one with half as many. Each is the best of five
+# sessions, from the command's first byte to its answer. Requests of the kind BEFORE are carried out in front of it.
 many() {
     for count in "$3" "$4"; do
         make_input "$2" "$count" > "$work/input-$count"
@@ -267,32 +267,37 @@ import sys
 import time
 
 name, full, half, program, work = sys.argv[1], int(sys.argv[2]), int(sys.argv[3]), *sys.argv[4:]
-filled, folder = os.path.join(work, "filled"), os.path.join(work, "store")
+folder = os.path.join(work, "store")
 
 
-def call(folder, path):
-    with open(path, "rb") as source, open(os.devnull, "wb") as sink:
-        begin = time.monotonic()
-        status = subprocess.call([program, "script", "--dir", folder], stdin=source, stdout=sink, stderr=subprocess.DEVNULL)
-        took = time.monotonic() - begin
-    if status != 0:
-        sys.exit("%s ended with status %d" % (program, status))
+def read(kind, count):
+    with open(os.path.join(work, "%s-%d" % (kind, count)), "rb") as source:
+        return source.read()
+
+
+# How long the command takes in a session of its own, whose answer is one line, as are those before it.
+def once(before, command):
+    shutil.rmtree(folder, ignore_errors=True)
+    os.mkdir(folder)
+    session = subprocess.Popen([program, "script", "--dir", folder], stdin=subprocess.PIPE, stdout=subprocess.PIPE)
+    session.stdin.write(before + b"PING\r\n")
+    session.stdin.flush()
+    while session.stdout.readline() != b"+PONG\r\n":
+        pass
+    begin = time.monotonic()
+    session.stdin.write(command)
+    session.stdin.flush()
+    answer = session.stdout.readline()
+    took = time.monotonic() - begin
+    session.stdin.close()
+    if session.wait() != 0 or not answer.startswith((b":", b"+")):
+        sys.exit("%s answered %r" % (program, answer))
     return took
 
 
-# How long a run takes over a copy of the filled store.
-def once(path):
-    shutil.rmtree(folder, ignore_errors=True)
-    shutil.copytree(filled, folder)
-    return call(folder, path)
-
-
 def seconds(count):
-    shutil.rmtree(filled, ignore_errors=True)
-    os.mkdir(filled)
-    call(filled, os.path.join(work, "before-%d" % count))
-    opened = min(once(os.devnull) for _ in range(3))
-    return min(once(os.path.join(work, "input-%d" % count)) for _ in range(3)) - opened
+    before, command = read("before", count), read("input", count)
+    return min(once(before, command) for _ in range(5))
 
 
 more, less = seconds(full), seconds(half)
