@@ -31,7 +31,7 @@ use Rattle.lives_model.specs.JoinedBatchLaws.{after-empty, after-joined}
 use Rattle.lives_model.specs.WrittenKeyLaws.{among-append}
 use Rattle.plan_laws.specs.AlikeRows.{life_of, RowsAlike, LivesAlike, counts_lives}
 use Rattle.plan_laws.specs.StillPlan.{Meets, life_rows, step_too}
-use Rattle.plan_laws.specs.AfterSteps.{step_lives, step_fresh}
+use Rattle.plan_laws.specs.AfterSteps.{step_lives, step_fresh, lives_left, lives_gone, lives_written}
 use Rattle.core_model.specs.AlikeLaws.{alike_clean}
 use Rattle.filter_laws.specs.Kept.{row_life}
 use Rattle.filter_laws.specs.IssuedInputs.{IsRowOf}
@@ -105,62 +105,18 @@ module _ (c d : Rows) (t : ℕ) (alike : (k : Bytes) → IsTrue (is_key k) → L
       by_raw raw (Some (ElementKey k v subkey)) e = life_alike raw k v (read_life_row raw (k, v) (ap row_life e))
       by_raw raw (Some (ScoreKey k v score member)) e = life_alike raw k v (read_life_row raw (k, v) (ap row_life e))
 
--- ---- one key after a batch
-
-module _ (c d : Rows) (b : Batch) (k : Bytes) where
-  rows_too : (version : ℕ) → RowsAlike c d k version → RowsAlike (after c b) (after d b) k version
-  rows_too version alike side subkey =
-      get-after c b (row_key side k version subkey) ∙ ap (over (get b (row_key side k version subkey))) (alike side subkey) ∙ sym (get-after d b (row_key side k version subkey))
-
-  module _ (u : ℕ) where
-    left_too : HasNoRows b k → LivesAlike c d u k → LivesAlike (after c b) (after d b) u k
-    left_too none alike = record {
-      meta = live_still d b u k none.meta ∙ alike.meta ∙ sym (live_still c b u k none.meta);
-      rows = λ version is. rows_too version (alike.rows version (ap life_of (sym (live_still c b u k none.meta)) ∙ is));
-    }
-
-    gone_too : Deletes b k → LivesAlike (after c b) (after d b) u k
-    gone_too deletes = record {
-      meta = live_gone d b u k deletes.meta ∙ sym (live_gone c b u k deletes.meta);
-      rows = λ version is. let no : None ≡ Some version = ap life_of (sym (live_gone c b u k deletes.meta)) ∙ is in absurd (cc);
-    }
-
-live_written : (c : Rows) (b : Batch) (u : ℕ) (k : Bytes) (text : Bytes) → get b (meta_key k) ≡ Some (Some text) → live_at (after c b) u k ≡ kept (is_live u) (read_meta text)
-unfolding live_at
-live_written c b u k text is = ap (λ o. kept (is_live u) (option_and_then read_meta o)) (placed c b (meta_key k) (Some text) is)
-
-version_back : (v : Value) (life : LifeAt) (x version : ℕ) → version_of (meta_for v life x) ≡ Some version → (has_life v ≡ true) × (life.version ≡ version)
-version_back (Str v) life x version e = absurd (cc)
-version_back (Hash v) life x version e = (refl, same_some life.version version e)
-version_back (ListOf v) life x version e = (refl, same_some life.version version e)
-version_back (SetOf v) life x version e = (refl, same_some life.version version e)
-version_back (ZSet v) life x version e = (refl, same_some life.version version e)
-
-written_too : (c d : Rows) (b : Batch) (u : ℕ) (k : Bytes) (e : Entry) (life : LifeAt) → (has_life e.value ≡ true → RowsAlike c d k life.version) → WritesEntry c b k e life → LivesAlike (after c b) (after d b) u k
-written_too c d b u k e life alike w = record {
-  meta = live_written d b u k (meta_text (meta_for e.value life w.expire)) w.meta ∙ sym here;
-  rows = λ version is.
-      let found = and_then_is version_of (kept (is_live u) (read_meta (meta_text (meta_for e.value life w.expire)))) version (ap life_of (sym here) ∙ is) in
-      let read : Some (meta_for e.value life w.expire) ≡ Some found.0 = sym (meta_is_read (meta_for e.value life w.expire) w.fits) ∙ (kept_is (is_live u) (read_meta (meta_text (meta_for e.value life w.expire))) found.0 found.1).0 in
-      let back = version_back e.value life w.expire version (ap version_of (same_some (meta_for e.value life w.expire) found.0 read) ∙ found.2) in
-      rows_too c d b k version (subst (RowsAlike c d k) back.1 (alike back.0));
-}
-  where
-    here : live_at (after c b) u k ≡ kept (is_live u) (read_meta (meta_text (meta_for e.value life w.expire)))
-    here = live_written c b u k (meta_text (meta_for e.value life w.expire)) w.meta
-
 -- ---- one command
 
 -- rows on which each key lives alike at the moment of a command and at another one
 module _ (c d : Rows) (m f fresh : ℕ) (n : RedisMap) (a : Command) (b : Batch) (meets : Meets c d m m fresh n n a) (k : Bytes) where
   leaves_too : (o : Option Entry) → IsTrue (among (keys_of a) k) → LeavesEntry c m fresh n a b k o → LivesAlike (after c b) (after d b) f k
-  leaves_too None named l = gone_too c d b k f l
+  leaves_too None named l = lives_gone c d b k f l
   leaves_too (Some e) named l =
-      written_too c d b f k e (life_after c m fresh n a k e.value)
+      lives_written c d b f k e (life_after c m fresh n a k e.value)
       (λ h. life_rows c d m m fresh n n a meets k named l.key e.value (version_fits e.value (life_after c m fresh n a k e.value) l.expire h l.fits)) l
 
   step_alike : LivesAlike c d f k → KeyPlan c m fresh n a b k → LivesAlike (after c b) (after d b) f k
-  step_alike alike (inl p) = left_too c d b k f p.1 alike
+  step_alike alike (inl p) = lives_left c d b k f p.1 alike
   step_alike alike (inr p) = leaves_too (get (apply_alive n m a).1 k) (touched_is_named n m a k p.0) p.1
 
 -- ---- several commands

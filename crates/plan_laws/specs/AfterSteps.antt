@@ -35,14 +35,14 @@ module _ (c d : Rows) (b : Batch) (k : Bytes) where
 
   module _ (u : ℕ) where
     -- a key that is left
-    lives_left : HasNoRows b k → LivesAlike c d u k → LivesAlike (after c b) (after d b) u k
+    pub lives_left : HasNoRows b k → LivesAlike c d u k → LivesAlike (after c b) (after d b) u k
     lives_left none alike = record {
       meta = live_still d b u k none.meta ∙ alike.meta ∙ sym (live_still c b u k none.meta);
       rows = λ version is. rows_after version (alike.rows version (ap life_of (sym (live_still c b u k none.meta)) ∙ is));
     }
 
     -- a key that is deleted
-    lives_gone : Deletes b k → LivesAlike (after c b) (after d b) u k
+    pub lives_gone : Deletes b k → LivesAlike (after c b) (after d b) u k
     lives_gone deletes = record {
       meta = live_gone d b u k deletes.meta ∙ sym (live_gone c b u k deletes.meta);
       rows = λ version is. let no : None ≡ Some version = ap life_of (sym (live_gone c b u k deletes.meta)) ∙ is in absurd (cc);
@@ -62,7 +62,7 @@ version_back (SetOf v) life x version e = (refl, same_some life.version version 
 version_back (ZSet v) life x version e = (refl, same_some life.version version e)
 
 -- lives alike afterwards
-lives_written : (c d : Rows) (b : Batch) (u : ℕ) (k : Bytes) (e : Entry) (life : LifeAt) → (has_life e.value ≡ true → RowsAlike c d k life.version) → WritesEntry c b k e life → LivesAlike (after c b) (after d b) u k
+pub lives_written : (c d : Rows) (b : Batch) (u : ℕ) (k : Bytes) (e : Entry) (life : LifeAt) → (has_life e.value ≡ true → RowsAlike c d k life.version) → WritesEntry c b k e life → LivesAlike (after c b) (after d b) u k
 lives_written c d b u k e life alike w = record {
   meta = live_written d b u k (meta_text meta) w.meta ∙ sym here;
   rows = λ version is.

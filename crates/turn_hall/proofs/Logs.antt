@@ -20,15 +20,14 @@ module _ {E : Type 0} where
   pub prefix_trans : (xs ys zs : List E) → IsPrefix xs ys → IsPrefix ys zs → IsPrefix xs zs
   prefix_trans xs ys zs p q = (p.0 ++ q.0, sym (append_assoc xs p.0 q.0) ∙ (ap (λ w. w ++ q.0) p.1 ∙ q.1))
 
-  -- of two beginnings of one list the shorter begins the longer
+  -- of two fronts of one list the shorter begins the longer
+  fronts : (xs ys p q : List E) → xs ++ p ≡ ys ++ q → length xs ≤ length ys → IsPrefix xs ys
+  fronts [] ys p q e le = (ys, refl)
+  fronts (x ∷ xs) [] p q e le = absurd (omega arith)
+  fronts (x ∷ xs) (y ∷ ys) p q e le = let rest = fronts xs ys p q (cc e) (omega arith) in (rest.0, cc (e, rest.1))
+
   pub prefix_shorter : (xs ys zs : List E) → IsPrefix xs zs → IsPrefix ys zs → length xs ≤ length ys → IsPrefix xs ys
-  prefix_shorter [] ys zs p q le = (ys, refl)
-  prefix_shorter (x ∷ xs) [] zs p q le = absurd (omega arith)
-  prefix_shorter (x ∷ xs) (y ∷ ys) [] p q le = absurd (cc (p.1))
-  prefix_shorter (x ∷ xs) (y ∷ ys) (z ∷ zs) p q le =
-      let heads : x ≡ y = cc (p.1, q.1) in
-      let rest = prefix_shorter xs ys zs (p.0, cc (p.1)) (q.0, cc (q.1)) (omega arith) in
-      (rest.0, cc (heads, rest.1))
+  prefix_shorter xs ys zs p q le = fronts xs ys p.0 q.0 (p.1 ∙ sym q.1) le
 
   pub prefix_more : (xs ys zs : List E) → IsPrefix xs ys → IsPrefix xs (ys ++ zs)
   prefix_more xs ys zs p = (p.0 ++ zs, sym (append_assoc xs p.0 zs) ∙ ap (λ w. w ++ zs) p.1)
