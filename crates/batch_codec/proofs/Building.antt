@@ -15,8 +15,8 @@ use Rattle.batch_codec.specs.Batches as batches
 use Rattle.batch_codec.specs.Batches.{Batch, is_row, are_rows}
 use Rattle.batch_codec.specs.declared.slot.Slot.TheVariants.{Del}
 use Rattle.batch_codec.specs.declared.slot.Entry.{Entry}
-use Rattle.batch_codec.specs.Slots.{slot_value, pair, pairs, batch_of, raw_cmp, lasts_from, lasts}
-use Rattle.batch_codec.specs.EntryListLaws.{under, entries_from_list, all_put}
+use Rattle.batch_codec.specs.Slots.{slot_value, slot_entry, slot_entries, batch_of, raw_cmp, lasts_from, lasts}
+use Rattle.batch_codec.specs.EntryListLaws.{is_under, entries_from_list, all_put}
 use Rattle.kv_base.specs.TestLaws.{both, is_less as lt}
 use Rattle.batch_codec.specs.BatchMaps.{AreSortedEntries}
 
@@ -30,7 +30,7 @@ latest old (e ∷ es) = latest (Some (slot_value e.slot)) es
 abbrev of_raw : Bytes → List Entry → List Entry
 of_raw q = filter (λ e. same q e.raw)
 
-get-entries : (b : Batch) (q : Bytes) (es : List Entry) → get (insert_all b (pairs es)) q ≡ latest (get b q) (of_raw q es)
+get-entries : (b : Batch) (q : Bytes) (es : List Entry) → get (insert_all b (slot_entries es)) q ≡ latest (get b q) (of_raw q es)
 unfolding latest
 get-entries b q [] = refl
 get-entries b q (e ∷ es) =
@@ -65,20 +65,20 @@ stable_batch old new stable =
 insert_over : (b : Batch) (k : Bytes) (x y : Option Bytes) → insert (insert b k x) k y ≡ insert b k y
 insert_over b k x y =
     same_map (insert (insert b k x) k y) (insert b k y) (λ q.
-    get-insert (insert b k x) k y q ∙ ap (cond (same q k) (Some y)) (get-insert b k x q) ∙ under (same q k) q ∙ sym (get-insert b k y q))
+    get-insert (insert b k x) k y q ∙ ap (cond (same q k) (Some y)) (get-insert b k x q) ∙ is_under (same q k) q ∙ sym (get-insert b k y q))
   where
-    under : (t : Bool) (q : Bytes) → cond t (Some y) (cond t (Some x) (get b q)) ≡ cond t (Some y) (get b q)
-    under true q = refl
-    under false q = refl
+    is_under : (t : Bool) (q : Bytes) → cond t (Some y) (cond t (Some x) (get b q)) ≡ cond t (Some y) (get b q)
+    is_under true q = refl
+    is_under false q = refl
 
-lasts_from_batch : (b : Batch) (e : Entry) (es : List Entry) → insert_all b (pairs (lasts_from e es)) ≡ insert_all b (pairs (e ∷ es))
+lasts_from_batch : (b : Batch) (e : Entry) (es : List Entry) → insert_all b (slot_entries (lasts_from e es)) ≡ insert_all b (slot_entries (e ∷ es))
 lasts_from_batch b e [] = refl
 lasts_from_batch b e (f ∷ es) =
-    elim (same f.raw e.raw) as (λ t. same f.raw e.raw ≡ t → insert_all b (pairs (cond t (lasts_from f es) (e ∷ lasts_from f es))) ≡ insert_all b (pairs (e ∷ f ∷ es))) [
+    elim (same f.raw e.raw) as (λ t. same f.raw e.raw ≡ t → insert_all b (slot_entries (cond t (lasts_from f es) (e ∷ lasts_from f es))) ≡ insert_all b (slot_entries (e ∷ f ∷ es))) [
       | true ↦ λ t.
           let over : insert (insert b e.raw (slot_value e.slot)) f.raw (slot_value f.slot) ≡ insert b f.raw (slot_value f.slot) =
           subst (λ (k : Bytes). insert (insert b k (slot_value e.slot)) f.raw (slot_value f.slot) ≡ insert b f.raw (slot_value f.slot)) (same_is f.raw e.raw t) (insert_over b f.raw (slot_value e.slot) (slot_value f.slot)) in
-          lasts_from_batch b f es ∙ ap (λ (c : Batch). insert_all c (pairs es)) (sym over)
+          lasts_from_batch b f es ∙ ap (λ (c : Batch). insert_all c (slot_entries es)) (sym over)
       | false ↦ λ t. lasts_from_batch (insert b e.raw (slot_value e.slot)) f es
     ] refl
 
@@ -95,30 +95,30 @@ greater Greater e f = refl
 
 -- of neighbours in order with two raw keys the later one is above
 above : (e f : Entry) (es : List Entry) → IsSorted raw_cmp (e ∷ f ∷ es) → same f.raw e.raw ≡ false → byte_cmp e.raw f.raw ≡ Less
-above e f es h apart = under f.raw e.raw (greater (byte_cmp f.raw e.raw) (h 0 e (omega arith) (omega arith)) apart)
+above e f es h apart = is_under f.raw e.raw (greater (byte_cmp f.raw e.raw) (h 0 e (omega arith) (omega arith)) apart)
 
 behind : (e : Entry) (es : List Entry) → IsSorted raw_cmp (e ∷ es) → IsSorted raw_cmp es
 behind e es h = λ k d low high.
     let one_on : suc k + 1 ≡ suc (k + 1) = omega arith in
     subst (λ (n : ℕ). is_lt (raw_cmp (get_or (e ∷ es) n d) (get_or es k d)) ≡ false) one_on (h (suc k) d (omega arith) (omega (arith, high)))
 
-below_lasts : (q : Bytes) (e : Entry) (es : List Entry) → IsSorted raw_cmp (e ∷ es) → byte_cmp q e.raw ≡ Less → T (below_all byte_cmp q (pairs (lasts_from e es)))
+below_lasts : (q : Bytes) (e : Entry) (es : List Entry) → IsSorted raw_cmp (e ∷ es) → byte_cmp q e.raw ≡ Less → T (below_all byte_cmp q (slot_entries (lasts_from e es)))
 below_lasts q e [] h low = both _ _ (lt _ low) tt
 below_lasts q e (f ∷ es) h low =
-    elim (same f.raw e.raw) as (λ t. same f.raw e.raw ≡ t → T (below_all byte_cmp q (pairs (cond t (lasts_from f es) (e ∷ lasts_from f es))))) [
+    elim (same f.raw e.raw) as (λ t. same f.raw e.raw ≡ t → T (below_all byte_cmp q (slot_entries (cond t (lasts_from f es) (e ∷ lasts_from f es))))) [
       | true ↦ λ t. below_lasts q f es (behind e (f ∷ es) h) (subst (λ (k : Bytes). byte_cmp q k ≡ Less) (sym (same_is f.raw e.raw t)) low)
       | false ↦ λ t. both _ _ (lt _ low) (below_lasts q f es (behind e (f ∷ es) h) (nat_list_cmp_total.trans q e.raw f.raw low (above e f es h t)))
     ] refl
 
-sorted_lasts_from : (e : Entry) (es : List Entry) → IsSorted raw_cmp (e ∷ es) → T (is_sorted byte_cmp (pairs (lasts_from e es)))
+sorted_lasts_from : (e : Entry) (es : List Entry) → IsSorted raw_cmp (e ∷ es) → T (is_sorted byte_cmp (slot_entries (lasts_from e es)))
 sorted_lasts_from e [] h = tt
 sorted_lasts_from e (f ∷ es) h =
-    elim (same f.raw e.raw) as (λ t. same f.raw e.raw ≡ t → T (is_sorted byte_cmp (pairs (cond t (lasts_from f es) (e ∷ lasts_from f es))))) [
+    elim (same f.raw e.raw) as (λ t. same f.raw e.raw ≡ t → T (is_sorted byte_cmp (slot_entries (cond t (lasts_from f es) (e ∷ lasts_from f es))))) [
       | true ↦ λ t. sorted_lasts_from f es (behind e (f ∷ es) h)
       | false ↦ λ t. both _ _ (below_lasts e.raw f es (behind e (f ∷ es) h) (above e f es h t)) (sorted_lasts_from f es (behind e (f ∷ es) h))
     ] refl
 
-sorted_lasts : (es : List Entry) → IsSorted raw_cmp es → T (is_sorted byte_cmp (pairs (lasts es)))
+sorted_lasts : (es : List Entry) → IsSorted raw_cmp es → T (is_sorted byte_cmp (slot_entries (lasts es)))
 sorted_lasts [] h = tt
 sorted_lasts (e ∷ es) h = sorted_lasts_from e es h
 
@@ -135,12 +135,12 @@ rows_inserted b (e ∷ es) h more =
 pub same_batch : (old sorted : List Entry) → IsStable raw_cmp old sorted → batch_of (lasts sorted) ≡ batch_of old
 same_batch old sorted stable = lasts_batch sorted ∙ stable_batch old sorted stable
 
-pub stands_in_order : (old sorted : List Entry) → IsTrue (are_rows (pairs old)) → IsStable raw_cmp old sorted → IsSorted raw_cmp sorted → AreSortedEntries (lasts sorted)
+pub stands_in_order : (old sorted : List Entry) → IsTrue (are_rows (slot_entries old)) → IsStable raw_cmp old sorted → IsSorted raw_cmp sorted → AreSortedEntries (lasts sorted)
 unfolding empty
 stands_in_order old sorted rows stable up =
     let order = sorted_lasts sorted up in
-    let its_rows : are_rows (batch_of old).entries ≡ true = rows_inserted empty (pairs old) refl rows in
-    (order, ap are_rows (sym (entries_from_list (pairs (lasts sorted)) order)) ∙ ap (λ (b : Batch). are_rows b.entries) (same_batch old sorted stable) ∙ its_rows)
+    let its_rows : are_rows (batch_of old).entries ≡ true = rows_inserted empty (slot_entries old) refl rows in
+    (order, ap are_rows (sym (entries_from_list (slot_entries (lasts sorted)) order)) ∙ ap (λ (b : Batch). are_rows b.entries) (same_batch old sorted stable) ∙ its_rows)
 
 -- ---- what `dedup_by` leaves where it puts the later of two neighbours in the place of the earlier one
 

@@ -4,8 +4,8 @@ use Rattle.std.specs.Prelude.{◌==◌}
 use Rattle.kv_base.specs.InversionLaws.{number_is}
 use Rattle.kv_base.specs.Map.{Bytes, insert, insert_all}
 use Rattle.batch_codec.specs.Batches.{Batch, BatchEntry}
-use Rattle.batch_codec.specs.Bodies.{read_entry, is_next, read_entries}
-use Rattle.batch_codec.specs.BodyLaws.{step, read_more}
+use Rattle.batch_codec.specs.Bodies.{read_entry, is_next_entry, read_entries}
+use Rattle.batch_codec.specs.BodyLaws.{read_next_entry, read_more}
 
 -- what is still to be read, onto what was read
 abbrev pub onto : Batch → ℕ → Option Bytes → Bytes → Option Batch
@@ -15,22 +15,22 @@ through : (batch : Batch) (e : BatchEntry) (o : Option (List BatchEntry)) → op
 through batch e None = refl
 through batch e (Some es) = refl
 
-pub one_more : (batch : Batch) (left n : ℕ) (last : Option Bytes) (bytes behind : Bytes) (e : BatchEntry) → left ≡ suc n → read_entry bytes ≡ Some (e, behind) → is_next last e ≡ true
+pub one_more : (batch : Batch) (left n : ℕ) (last : Option Bytes) (bytes behind : Bytes) (e : BatchEntry) → left ≡ suc n → read_entry bytes ≡ Some (e, behind) → is_next_entry last e ≡ true
     → onto batch left last bytes ≡ onto (insert batch e.0 e.1) n (Some e.0) behind
 one_more batch left n last bytes behind e counted is next =
     ap (λ (k : ℕ). option_map (insert_all batch) (read_entries k last bytes)) counted
-    ∙ ap (λ o. option_map (insert_all batch) o) (read_more n last bytes ∙ ap (λ o. option_and_then (step n last) o) is ∙ ap (λ b. cond b (option_map (λ es. e ∷ es) (read_entries n (Some e.0) behind)) None) next)
+    ∙ ap (λ o. option_map (insert_all batch) o) (read_more n last bytes ∙ ap (λ o. option_and_then (read_next_entry n last) o) is ∙ ap (λ b. cond b (option_map (λ es. e ∷ es) (read_entries n (Some e.0) behind)) None) next)
     ∙ through batch e (read_entries n (Some e.0) behind)
 
 pub no_entry : (batch : Batch) (left n : ℕ) (last : Option Bytes) (bytes : Bytes) → left ≡ suc n → read_entry bytes ≡ None → onto batch left last bytes ≡ None
 no_entry batch left n last bytes counted is =
     ap (λ (k : ℕ). option_map (insert_all batch) (read_entries k last bytes)) counted
-    ∙ ap (λ o. option_map (insert_all batch) o) (read_more n last bytes ∙ ap (λ o. option_and_then (step n last) o) is)
+    ∙ ap (λ o. option_map (insert_all batch) o) (read_more n last bytes ∙ ap (λ o. option_and_then (read_next_entry n last) o) is)
 
-pub not_next : (batch : Batch) (left n : ℕ) (last : Option Bytes) (bytes behind : Bytes) (e : BatchEntry) → left ≡ suc n → read_entry bytes ≡ Some (e, behind) → is_next last e ≡ false → onto batch left last bytes ≡ None
+pub not_next : (batch : Batch) (left n : ℕ) (last : Option Bytes) (bytes behind : Bytes) (e : BatchEntry) → left ≡ suc n → read_entry bytes ≡ Some (e, behind) → is_next_entry last e ≡ false → onto batch left last bytes ≡ None
 not_next batch left n last bytes behind e counted is next =
     ap (λ (k : ℕ). option_map (insert_all batch) (read_entries k last bytes)) counted
-    ∙ ap (λ o. option_map (insert_all batch) o) (read_more n last bytes ∙ ap (λ o. option_and_then (step n last) o) is ∙ ap (λ b. cond b (option_map (λ es. e ∷ es) (read_entries n (Some e.0) behind)) None) next)
+    ∙ ap (λ o. option_map (insert_all batch) o) (read_more n last bytes ∙ ap (λ o. option_and_then (read_next_entry n last) o) is ∙ ap (λ b. cond b (option_map (λ es. e ∷ es) (read_entries n (Some e.0) behind)) None) next)
 
 pub at_end : (batch : Batch) (left : ℕ) (last : Option Bytes) (bytes : Bytes) → left ≡ 0 → (length bytes == 0) ≡ true → onto batch left last bytes ≡ Some batch
 unfolding read_entries

@@ -8,7 +8,7 @@ use Rattle.std.specs.FinMap.Entries.{is_sorted}
 use Rattle.kv_base.specs.Map.{Bytes, byte_cmp, insert}
 use Rattle.batch_codec.specs.declared.slot.Entry.{Entry}
 use Rattle.batch_codec.specs.Batches.{are_rows}
-use Rattle.batch_codec.specs.Slots.{pairs, batch_of}
+use Rattle.batch_codec.specs.Slots.{slot_entries, batch_of}
 
 -- the raw key stands at this place
 abbrev pub IsThere : List Entry → Bytes → ℕ → Type 0
@@ -19,7 +19,7 @@ abbrev pub IsBetween : List Entry → Bytes → ℕ → Type 0
 IsBetween xs raw at = (at ≤ length xs) × IsPartitionPoint (λ e. byte_cmp e.raw raw ≡ Less) (λ e. byte_cmp e.raw raw ≡ Greater) xs at
 
 abbrev pub AreSortedEntries : List Entry → Type 0
-AreSortedEntries xs = T (is_sorted byte_cmp (pairs xs)) × IsTrue (are_rows (pairs xs))
+AreSortedEntries xs = T (is_sorted byte_cmp (slot_entries xs)) × IsTrue (are_rows (slot_entries xs))
 
 pub record Sets (old new : List Entry) (raw : Bytes) (value : Option Bytes) : Type 0 where
   pub kept : AreSortedEntries new

@@ -50,14 +50,14 @@ is_above None raw = true
 is_above (Some last) raw = is_lt (byte_cmp last raw)
 
 -- an entry that may stand behind the raw key before it
-abbrev pub is_next : Option Bytes → BatchEntry → Bool
-is_next last entry = is_above last entry.0 && is_row entry
+abbrev pub is_next_entry : Option Bytes → BatchEntry → Bool
+is_next_entry last entry = is_above last entry.0 && is_row entry
 
 -- so many entries, and nothing behind them
 unfoldable pub read_entries : ℕ → Option Bytes → Bytes → Option (List BatchEntry)
 read_entries zero last bytes = if is_empty bytes then Some [] else None
 read_entries (suc n) last bytes =
-    option_and_then (λ front. if is_next last front.0 then option_map (λ entries. front.0 ∷ entries) (read_entries n (Some front.0.0) front.1) else None) (read_entry bytes)
+    option_and_then (λ front. if is_next_entry last front.0 then option_map (λ entries. front.0 ∷ entries) (read_entries n (Some front.0.0) front.1) else None) (read_entry bytes)
 
 pub record Head : Type 0 where
   pub seq : ℕ

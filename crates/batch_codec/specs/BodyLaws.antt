@@ -15,7 +15,7 @@ use Rattle.kv_base.specs.InversionLaws.{same_some, and_then_is, map_is, if_is, b
 use Rattle.batch_codec.specs.Batches.{BatchEntry, Batch, is_row, are_rows}
 use Rattle.batch_codec.specs.EntryListLaws.{entries_from_list, from_its_entries}
 use Rattle.batch_codec.specs.declared.record.Record.{Record}
-use Rattle.batch_codec.specs.Bodies.{entry_text, entries_text, body_of, is_seq, is_moment, value_behind, deleted, read_entry, is_above, is_next, read_entries, Head, read_head, is_head, record_of, entries_behind, read_body}
+use Rattle.batch_codec.specs.Bodies.{entry_text, entries_text, body_of, is_seq, is_moment, value_behind, deleted, read_entry, is_above, is_next_entry, read_entries, Head, read_head, is_head, record_of, entries_behind, read_body}
 use Rattle.kv_base.specs.TestLaws.{less_is as less}
 
 -- ---- entries
@@ -55,9 +55,9 @@ only_entry_is_read (mark ∷ bytes) p h = by_mark mark bytes p _ _ refl refl h
 
 -- ---- each above the one before it, and all in order
 
-abbrev pub rise : Option Bytes → List BatchEntry → Bool
-rise last [] = true
-rise last (e ∷ es) = is_above last e.0 && rise (Some e.0) es
+abbrev pub raw_keys_rise : Option Bytes → List BatchEntry → Bool
+raw_keys_rise last [] = true
+raw_keys_rise last (e ∷ es) = is_above last e.0 && raw_keys_rise (Some e.0) es
 
 is_true : (b : Bool) → T b → b ≡ true
 is_true true h = refl
@@ -75,49 +75,49 @@ still_below a b (e ∷ es) h below =
     let next = less (byte_cmp b e.0) (both_first (is_lt (byte_cmp b e.0)) (below_all byte_cmp b es) below) in
     all (is_lt (byte_cmp a e.0)) (below_all byte_cmp a es) (ap is_lt (nat_list_cmp_total.trans a b e.0 h next)) (still_below a b es h (both_second (is_lt (byte_cmp b e.0)) (below_all byte_cmp b es) below))
 
-rise_below : (k : Bytes) (es : List BatchEntry) → rise (Some k) es ≡ true → below_all byte_cmp k es ≡ true
+rise_below : (k : Bytes) (es : List BatchEntry) → raw_keys_rise (Some k) es ≡ true → below_all byte_cmp k es ≡ true
 rise_below k [] up = refl
 rise_below k (e ∷ es) up =
-    let next = both_first (is_lt (byte_cmp k e.0)) (rise (Some e.0) es) up in
-    all (is_lt (byte_cmp k e.0)) (below_all byte_cmp k es) next (still_below k e.0 es (less (byte_cmp k e.0) next) (rise_below e.0 es (both_second (is_lt (byte_cmp k e.0)) (rise (Some e.0) es) up)))
+    let next = both_first (is_lt (byte_cmp k e.0)) (raw_keys_rise (Some e.0) es) up in
+    all (is_lt (byte_cmp k e.0)) (below_all byte_cmp k es) next (still_below k e.0 es (less (byte_cmp k e.0) next) (rise_below e.0 es (both_second (is_lt (byte_cmp k e.0)) (raw_keys_rise (Some e.0) es) up)))
 
-rise_sorted : (last : Option Bytes) (es : List BatchEntry) → rise last es ≡ true → is_sorted byte_cmp es ≡ true
+rise_sorted : (last : Option Bytes) (es : List BatchEntry) → raw_keys_rise last es ≡ true → is_sorted byte_cmp es ≡ true
 rise_sorted last [] up = refl
 rise_sorted last (e ∷ es) up =
-    let rest = both_second (is_above last e.0) (rise (Some e.0) es) up in
+    let rest = both_second (is_above last e.0) (raw_keys_rise (Some e.0) es) up in
     all (below_all byte_cmp e.0 es) (is_sorted byte_cmp es) (rise_below e.0 es rest) (rise_sorted (Some e.0) es rest)
 
-sorted_rise : (last : Option Bytes) (es : List BatchEntry) → is_sorted byte_cmp es ≡ true → ((e : BatchEntry) (rest : List BatchEntry) → es ≡ e ∷ rest → is_above last e.0 ≡ true) → rise last es ≡ true
+sorted_rise : (last : Option Bytes) (es : List BatchEntry) → is_sorted byte_cmp es ≡ true → ((e : BatchEntry) (rest : List BatchEntry) → es ≡ e ∷ rest → is_above last e.0 ≡ true) → raw_keys_rise last es ≡ true
 sorted_rise last [] up first = refl
 sorted_rise last (e ∷ es) up first =
     let below = both_first (below_all byte_cmp e.0 es) (is_sorted byte_cmp es) up in
-    all (is_above last e.0) (rise (Some e.0) es) (first e es refl)
+    all (is_above last e.0) (raw_keys_rise (Some e.0) es) (first e es refl)
     (sorted_rise (Some e.0) es (both_second (below_all byte_cmp e.0 es) (is_sorted byte_cmp es) up)
     (λ f rest is. both_first (is_lt (byte_cmp e.0 f.0)) (below_all byte_cmp e.0 rest) (subst (λ (l : List BatchEntry). below_all byte_cmp e.0 l ≡ true) is below)))
 
 -- ---- so many entries
 
-abbrev pub step : ℕ → Option Bytes → BatchEntry × Bytes → Option (List BatchEntry)
-step n last front = if is_next last front.0 then option_map (λ entries. front.0 ∷ entries) (read_entries n (Some front.0.0) front.1) else None
+abbrev pub read_next_entry : ℕ → Option Bytes → BatchEntry × Bytes → Option (List BatchEntry)
+read_next_entry n last front = if is_next_entry last front.0 then option_map (λ entries. front.0 ∷ entries) (read_entries n (Some front.0.0) front.1) else None
 
-pub read_more : (n : ℕ) (last : Option Bytes) (bytes : Bytes) → read_entries (suc n) last bytes ≡ option_and_then (step n last) (read_entry bytes)
+pub read_more : (n : ℕ) (last : Option Bytes) (bytes : Bytes) → read_entries (suc n) last bytes ≡ option_and_then (read_next_entry n last) (read_entry bytes)
 unfolding read_entries
 read_more n last bytes = refl
 
-entries_are_read : (es : List BatchEntry) (last : Option Bytes) → length (entries_text es) < 2 ^ 32 → rise last es ≡ true → are_rows es ≡ true → read_entries (length es) last (entries_text es) ≡ Some es
+entries_are_read : (es : List BatchEntry) (last : Option Bytes) → length (entries_text es) < 2 ^ 32 → raw_keys_rise last es ≡ true → are_rows es ≡ true → read_entries (length es) last (entries_text es) ≡ Some es
 unfolding read_entries
 entries_are_read [] last short up rows = refl
 entries_are_read (e ∷ es) last short up rows =
     let parts = length-append (entry_text e) (entries_text es) in
-    let next : is_next last e ≡ true = all (is_above last e.0) (is_row e) (both_first (is_above last e.0) (rise (Some e.0) es) up) (both_first (is_row e) (are_rows es) rows) in
-    ap (λ r. option_and_then (step (length es) last) r) (entry_is_read e (entries_text es) (omega (arith, short, parts)))
+    let next : is_next_entry last e ≡ true = all (is_above last e.0) (is_row e) (both_first (is_above last e.0) (raw_keys_rise (Some e.0) es) up) (both_first (is_row e) (are_rows es) rows) in
+    ap (λ r. option_and_then (read_next_entry (length es) last) r) (entry_is_read e (entries_text es) (omega (arith, short, parts)))
     ∙ ap (λ b. cond b (option_map (λ entries. e ∷ entries) (read_entries (length es) (Some e.0) (entries_text es))) None) next
-    ∙ ap (λ r. option_map (λ entries. e ∷ entries) r) (entries_are_read es (Some e.0) (omega (arith, short, parts)) (both_second (is_above last e.0) (rise (Some e.0) es) up) (both_second (is_row e) (are_rows es) rows))
+    ∙ ap (λ r. option_map (λ entries. e ∷ entries) r) (entries_are_read es (Some e.0) (omega (arith, short, parts)) (both_second (is_above last e.0) (raw_keys_rise (Some e.0) es) up) (both_second (is_row e) (are_rows es) rows))
 
 pub record AreEntriesOf (n : ℕ) (last : Option Bytes) (bytes : Bytes) (es : List BatchEntry) : Type 0 where
   pub spelled : bytes ≡ entries_text es
   pub count : length es ≡ n
-  pub up : rise last es ≡ true
+  pub up : raw_keys_rise last es ≡ true
   pub rows : are_rows es ≡ true
 
 empty_is : (bytes : Bytes) → is_empty bytes ≡ true → bytes ≡ []
@@ -130,15 +130,15 @@ only_entries_are_read zero last bytes es h =
     let end = if_is (is_empty bytes) (Some []) es h in
     subst (λ (l : List BatchEntry). AreEntriesOf zero last bytes l) (same_some [] es end.1) (record { spelled = empty_is bytes end.0; count = refl; up = refl; rows = refl })
 only_entries_are_read (suc n) last bytes es h =
-    let front = and_then_is (step n last) (read_entry bytes) es h in
+    let front = and_then_is (read_next_entry n last) (read_entry bytes) es h in
     let e = front.0.0 in
-    let next = if_is (is_next last e) (option_map (λ entries. e ∷ entries) (read_entries n (Some e.0) front.0.1)) es front.2 in
+    let next = if_is (is_next_entry last e) (option_map (λ entries. e ∷ entries) (read_entries n (Some e.0) front.0.1)) es front.2 in
     let rest = map_is (λ (l : List BatchEntry). e ∷ l) (read_entries n (Some e.0) front.0.1) es next.1 in
     let more = only_entries_are_read n (Some e.0) front.0.1 rest.0 rest.1 in
     subst (λ (l : List BatchEntry). AreEntriesOf (suc n) last bytes l) rest.2 (record {
       spelled = only_entry_is_read bytes front.0 front.1 ∙ ap (λ b. entry_text e ++ b) more.spelled;
       count = ap suc more.count;
-      up = all (is_above last e.0) (rise (Some e.0) rest.0) (both_first (is_above last e.0) (is_row e) next.0) more.up;
+      up = all (is_above last e.0) (raw_keys_rise (Some e.0) rest.0) (both_first (is_above last e.0) (is_row e) next.0) more.up;
       rows = all (is_row e) (are_rows rest.0) (both_second (is_above last e.0) (is_row e) next.0) more.rows;
     })
 
@@ -149,10 +149,10 @@ head_is_read : (seq moment count : ℕ) (behind : Bytes) → seq < 2 ^ 64 → mo
 unfolding read_head
 head_is_read seq moment count behind s m c = rw (u64_is_read seq s (u64 moment ++ (u32 count ++ behind)), u64_is_read moment m (u32 count ++ behind), u32_is_read count c behind) refl
 
-abbrev pub head_text : Head → Bytes
-head_text head = u64 head.seq ++ (u64 head.moment ++ (u32 head.count ++ head.behind))
+abbrev pub record_head_text : Head → Bytes
+record_head_text head = u64 head.seq ++ (u64 head.moment ++ (u32 head.count ++ head.behind))
 
-only_head_is_read : (bytes : Bytes) (head : Head) → read_head bytes ≡ Some head → bytes ≡ head_text head
+only_head_is_read : (bytes : Bytes) (head : Head) → read_head bytes ≡ Some head → bytes ≡ record_head_text head
 unfolding read_head
 only_head_is_read bytes head h =
     let seq = and_then_is (λ (s : ℕ × Bytes). option_and_then (λ (m : ℕ × Bytes). option_map (λ (c : ℕ × Bytes). with_numbers s m c) (read_u32 m.1)) (read_u64 s.1)) (read_u64 bytes) head h in
@@ -162,7 +162,7 @@ only_head_is_read bytes head h =
     let m = (only_u64_is_read seq.0.1 moment.0.0 moment.0.1 moment.1).0 in
     let c = (only_u32_is_read moment.0.1 count.0.0 count.0.1 count.1).0 in
     let whole : bytes ≡ u64 seq.0.0 ++ (u64 moment.0.0 ++ (u32 count.0.0 ++ count.0.1)) = s ∙ ap (λ b. u64 seq.0.0 ++ b) (m ∙ ap (λ b. u64 moment.0.0 ++ b) c) in
-    whole ∙ ap head_text count.2
+    whole ∙ ap record_head_text count.2
   where
     with_numbers : ℕ × Bytes → ℕ × Bytes → ℕ × Bytes → Head
     with_numbers s m c = record { seq = s.0; moment = m.0; count = c.0; behind = c.1 }
@@ -187,9 +187,9 @@ low_moment : (moment : ℕ) → is_moment moment ≡ true → moment < 2 ^ 64
 low_moment moment h = grind (arith, nat_tests)
 
 -- each entry has a byte at least
-pub many : (es : List BatchEntry) → length es ≤ length (entries_text es)
-many [] = omega arith
-many (e ∷ es) = let rest = many es in let parts = length-append (entry_text e) (entries_text es) in let some = one e in omega (arith, rest, parts, some)
+pub entries_have_bytes : (es : List BatchEntry) → length es ≤ length (entries_text es)
+entries_have_bytes [] = omega arith
+entries_have_bytes (e ∷ es) = let rest = entries_have_bytes es in let parts = length-append (entry_text e) (entries_text es) in let some = one e in omega (arith, rest, parts, some)
   where
     one : (e : BatchEntry) → 1 ≤ length (entry_text e)
     one (raw, Some value) = omega arith
@@ -206,11 +206,11 @@ pub body_is_read : (seq moment : ℕ) (batch : Batch) → IsWritable seq moment 
 unfolding read_body body_of is_head size
 body_is_read seq moment batch w short =
     let total = length-body seq moment batch in
-    let bound = many batch.entries in
+    let bound = entries_have_bytes batch.entries in
     let count = length batch.entries in
     let some : nat_le 1 count ≡ true = (let h = w.some in grind (arith, nat_tests)) in
     let head : (is_seq seq && is_moment moment && nat_le 1 count) ≡ true = all (is_seq seq && is_moment moment) (nat_le 1 count) (all (is_seq seq) (is_moment moment) w.seq_is w.moment_is) some in
-    let up : rise None batch.entries ≡ true = sorted_rise None batch.entries (is_true (is_sorted byte_cmp batch.entries) batch.sorted) (λ e rest is. refl) in
+    let up : raw_keys_rise None batch.entries ≡ true = sorted_rise None batch.entries (is_true (is_sorted byte_cmp batch.entries) batch.sorted) (λ e rest is. refl) in
     ap (λ r. option_and_then entries_behind r) (head_is_read seq moment count (entries_text batch.entries) (low_seq seq w.seq_is) (low_moment moment w.moment_is) (omega (arith, total, bound, short)))
     ∙ ap (λ b. cond b (option_map (record_of (record { seq = seq; moment = moment; count = count; behind = entries_text batch.entries })) (read_entries count None (entries_text batch.entries))) None) head
     ∙ ap (λ r. option_map (record_of (record { seq = seq; moment = moment; count = count; behind = entries_text batch.entries })) r) (entries_are_read batch.entries None (omega (arith, total, short)) up w.rows)

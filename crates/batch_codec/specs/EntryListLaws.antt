@@ -18,8 +18,8 @@ use Rattle.kv_base.specs.TestLaws.{first, second, less, is_less as lt}
 pub over : (a b : Bytes) → byte_cmp a b ≡ Less → byte_cmp b a ≡ Greater
 over a b h = nat_list_cmp_total.antisymm b a ∙ ap ordering_reverse h
 
-pub under : (a b : Bytes) → byte_cmp a b ≡ Greater → byte_cmp b a ≡ Less
-under a b h = nat_list_cmp_total.antisymm b a ∙ ap ordering_reverse h
+pub is_under : (a b : Bytes) → byte_cmp a b ≡ Greater → byte_cmp b a ≡ Less
+is_under a b h = nat_list_cmp_total.antisymm b a ∙ ap ordering_reverse h
 
 pub level : (a b : Bytes) → byte_cmp a b ≡ Equal → byte_cmp b a ≡ Equal
 level a b h = nat_list_cmp_total.antisymm b a ∙ ap ordering_reverse h
@@ -131,7 +131,7 @@ module _ {X Y : Type 0} (f : Y → Bytes × X) where
   put_at [] zero y k v is low place = ap (λ e. e ∷ []) (sym is)
   put_at [] (suc at) y k v is low place = let never : ⊥ = omega arith in absurd never
   put_at (x ∷ xs) zero y k v is low place =
-      ap (λ o. by_order o ((k, v) ∷ f x ∷ map f xs) (((f x).0, v) ∷ map f xs) (f x ∷ put byte_cmp k v (map f xs))) (under (f x).0 k (place.1 0 x (omega arith) (omega arith)))
+      ap (λ o. by_order o ((k, v) ∷ f x ∷ map f xs) (((f x).0, v) ∷ map f xs) (f x ∷ put byte_cmp k v (map f xs))) (is_under (f x).0 k (place.1 0 x (omega arith) (omega arith)))
       ∙ ap (λ e. e ∷ f x ∷ map f xs) (sym is)
   put_at (x ∷ xs) (suc at) y k v is low place =
       ap (λ o. by_order o ((k, v) ∷ f x ∷ map f xs) (((f x).0, v) ∷ map f xs) (f x ∷ put byte_cmp k v (map f xs))) (over (f x).0 k (place.0 0 x (omega arith) (omega arith)))
@@ -158,7 +158,7 @@ module _ {X Y : Type 0} (f : Y → Bytes × X) where
   pub find_none : (xs : List Y) (at : ℕ) (k : Bytes) → at ≤ length xs → IsPartitionPoint (λ x. byte_cmp (f x).0 k ≡ Less) (λ x. byte_cmp (f x).0 k ≡ Greater) xs at → find byte_cmp k (map f xs) ≡ None
   find_none [] at k low place = refl
   find_none (x ∷ xs) zero k low place =
-      ap (λ o. cond (is_eq o) (Some (f x).1) (find byte_cmp k (map f xs))) (under (f x).0 k (place.1 0 x (omega arith) (omega arith)))
+      ap (λ o. cond (is_eq o) (Some (f x).1) (find byte_cmp k (map f xs))) (is_under (f x).0 k (place.1 0 x (omega arith) (omega arith)))
       ∙ find_none xs zero k (omega arith) ((λ i d l h. let never : ⊥ = omega arith in absurd never), (λ i d l h. place.1 (suc i) d (omega arith) (omega arith)))
   find_none (x ∷ xs) (suc at) k low place =
       ap (λ o. cond (is_eq o) (Some (f x).1) (find byte_cmp k (map f xs))) (over (f x).0 k (place.0 0 x (omega arith) (omega arith)))

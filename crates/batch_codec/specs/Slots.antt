@@ -11,14 +11,14 @@ abbrev pub slot_value : Slot → Option Bytes
 slot_value (Put value) = Some value
 slot_value Del = None
 
-abbrev pub pair : Entry → batches.BatchEntry
-pair entry = (entry.raw, slot_value entry.slot)
+abbrev pub slot_entry : Entry → batches.BatchEntry
+slot_entry entry = (entry.raw, slot_value entry.slot)
 
-abbrev pub pairs : List Entry → List batches.BatchEntry
-pairs = map pair
+abbrev pub slot_entries : List Entry → List batches.BatchEntry
+slot_entries = map slot_entry
 
 abbrev pub batch_of : List Entry → batches.Batch
-batch_of entries = from_list (pairs entries)
+batch_of entries = from_list (slot_entries entries)
 
 -- by raw key
 abbrev pub raw_cmp : Entry → Entry → Ordering

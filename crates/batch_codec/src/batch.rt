@@ -6,7 +6,7 @@ ghost use Rattle.kv_base.specs.Map.{byte_cmp};
 ghost use Rattle.kv_base.specs.RawKeys.{is_raw_text};
 ghost use Rattle.kv_base.specs.MetaValues.{is_value_text};
 ghost use Rattle.batch_codec.specs.Batches.{are_rows, is_row};
-ghost use Rattle.batch_codec.specs.Slots.{batch_of, pairs, slot_value};
+ghost use Rattle.batch_codec.specs.Slots.{batch_of, slot_entries, slot_value};
 
 use crate::place::place;
 use crate::slot::{Entry, Slot};
@@ -29,7 +29,7 @@ impl Model for Batch {
     ghost use Rattle.kv_base.specs.Map.{byte_cmp, code};
     ghost use Rattle.batch_codec.specs.Batches as batches;
     ghost use Rattle.batch_codec.specs.Batches.{are_rows};
-    ghost use Rattle.batch_codec.specs.Slots.{pairs, batch_of};
+    ghost use Rattle.batch_codec.specs.Slots.{slot_entries, batch_of};
 
     ghost Value = { batches.Batch };
 
@@ -37,7 +37,7 @@ impl Model for Batch {
 
     ghost view = { λ b. batch_of b.entries.items };
 
-    ghost invariant = { λ b. T (is_sorted byte_cmp (pairs b.entries.items)) × IsTrue (are_rows (pairs b.entries.items)) };
+    ghost invariant = { λ b. T (is_sorted byte_cmp (slot_entries b.entries.items)) × IsTrue (are_rows (slot_entries b.entries.items)) };
 }
 
 impl Batch {
@@ -71,8 +71,8 @@ impl Batch {
 
     /// The batch of these entries, which stand in order.
     pub(crate) fn from_entries(entries: Vec<Entry>) -> Batch
-        requires ascending { T (is_sorted byte_cmp (pairs entries.items)) }
-        requires grammar { IsTrue (are_rows (pairs entries.items)) }
+        requires ascending { T (is_sorted byte_cmp (slot_entries entries.items)) }
+        requires grammar { IsTrue (are_rows (slot_entries entries.items)) }
         ensures { result ≡ batch_of entries.items }
     {
         Batch { entries }
@@ -126,7 +126,7 @@ impl Batch {
 
     /// The entries in the order of their raw keys.
     pub(crate) fn entries(&self) -> &[Entry]
-        ensures all { pairs result.now ≡ self.now.entries }
+        ensures all { slot_entries result.now ≡ self.now.entries }
         ensures grammar { IsTrue (are_rows self.now.entries) }
     {
         self.entries.as_slice()

@@ -3,7 +3,7 @@
 ghost use Rattle.std.specs.Prelude.{◌≡◌, ◌≤◌, ◌<◌, ◌-◌, ◌^◌, ◌++◌, ℕ, IfOk, OnOk, IsTrue, length};
 ghost use Rattle.kv_base.specs.Map.{size};
 ghost use Rattle.batch_codec.specs.Bodies.{body_of, entries_text, entry_text, is_moment, is_seq};
-ghost use Rattle.batch_codec.specs.Slots.{pair, pairs};
+ghost use Rattle.batch_codec.specs.Slots.{slot_entry, slot_entries};
 
 use crate::batch::Batch;
 use crate::slot::{Entry, Slot};
@@ -34,7 +34,7 @@ impl Batch {
 }
 
 fn entry_len(entry: &Entry) -> u128
-    ensures { result ≡ length (entry_text (pair entry.now)) }
+    ensures { result ≡ length (entry_text (slot_entry entry.now)) }
 {
     let raw = entry.raw.bytes().len() as u128;
     match &entry.slot {
@@ -69,8 +69,8 @@ pub fn encode_record(
 }
 
 fn write_entries(body: &mut BodyWriter, entries: &[Entry]) -> Result<(), NoMem>
-    requires { length (entries_text (pairs entries.now)) < 2 ^ 32 }
-    ensures { OnOk result (body.new ≡ body.old ++ entries_text (pairs entries.now)) }
+    requires { length (entries_text (slot_entries entries.now)) < 2 ^ 32 }
+    ensures { OnOk result (body.new ≡ body.old ++ entries_text (slot_entries entries.now)) }
 {
     for entry in entries {
         write_entry(body, entry)?;
@@ -79,8 +79,8 @@ fn write_entries(body: &mut BodyWriter, entries: &[Entry]) -> Result<(), NoMem>
 }
 
 fn write_entry(body: &mut BodyWriter, entry: &Entry) -> Result<(), NoMem>
-    requires { length (entry_text (pair entry.now)) < 2 ^ 32 }
-    ensures { OnOk result (body.new ≡ body.old ++ entry_text (pair entry.now)) }
+    requires { length (entry_text (slot_entry entry.now)) < 2 ^ 32 }
+    ensures { OnOk result (body.new ≡ body.old ++ entry_text (slot_entry entry.now)) }
 {
     match &entry.slot {
         Slot::Put(value) => {

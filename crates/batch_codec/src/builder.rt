@@ -34,7 +34,7 @@ impl Model for BatchBuilder {
     ghost use Rattle.kv_base.specs.Map.{code};
     ghost use Rattle.batch_codec.specs.Batches as batches;
     ghost use Rattle.batch_codec.specs.Batches.{are_rows};
-    ghost use Rattle.batch_codec.specs.Slots.{pairs, batch_of};
+    ghost use Rattle.batch_codec.specs.Slots.{slot_entries, batch_of};
 
     ghost Value = { batches.Batch };
 
@@ -42,7 +42,7 @@ impl Model for BatchBuilder {
 
     ghost view = { λ b. batch_of b.entries.items };
 
-    ghost invariant = { λ b. IsTrue (are_rows (pairs b.entries.items)) };
+    ghost invariant = { λ b. IsTrue (are_rows (slot_entries b.entries.items)) };
 }
 
 impl BatchBuilder {

@@ -3,7 +3,7 @@
 ghost use Rattle.std.specs.Prelude.{◌≡◌, ◌&&◌, IsTrue, IfOk, OnOk, None, option_map};
 ghost use Rattle.kv_base.specs.Map.{from_list, insert};
 ghost use Rattle.batch_codec.specs.Batches.{is_row as is_row_of};
-ghost use Rattle.batch_codec.specs.Bodies.{is_above as stands_above, is_head as is_head_of, is_next as may_follow, read_body, read_entries, read_entry, read_head};
+ghost use Rattle.batch_codec.specs.Bodies.{is_above as stands_above, is_head as is_head_of, is_next_entry as may_follow, read_body, read_entries, read_entry, read_head};
 
 use crate::batch::Batch;
 use crate::body::{DELETE, PUT};

@@ -10,7 +10,7 @@ use Rattle.redis_model.specs.Limits.{IsShort, max_words, max_weight}
 use Rattle.redis_model.specs.declared.command.Command.{Command}
 use Rattle.redis_model.specs.declared.upkeep.Upkeep.TheVariants as upkeep
 use Rattle.cmd_words.specs.Words.{is, weight_of, AreRequestWords}
-use Rattle.cmd_words.specs.Table.{alone, small, compact_of, kvr, of_session, data_of, read, of_no_keys, of_strings, of_keys, of_hashes, of_lists, of_sets, of_sorted_sets}
+use Rattle.cmd_words.specs.Table.{alone, level_number, compact_of, kvr, of_session, data_of, read_command, of_no_keys, of_strings, of_keys, of_hashes, of_lists, of_sets, of_sorted_sets}
 use Rattle.cmd_words.specs.Parsed.{IsAskable}
 use Rattle.cmd_words.specs.declared.fault.FaultKind.{FaultKind}
 use Rattle.cmd_words.specs.declared.fault.FaultKind.TheVariants as wrong
@@ -69,7 +69,7 @@ if_asked : (words : List Bytes) (b : Bool) (p q : Result Parsed FaultKind) (x : 
 if_asked words true p q x f g h = f h
 if_asked words false p q x f g h = g h
 
-small_is : (z : Option ℤ) (n : ℕ) → small z ≡ Some n → n < 4
+small_is : (z : Option ℤ) (n : ℕ) → level_number z ≡ Some n → n < 4
 small_is None n h = cc
 small_is (Some (negsuc k)) n h = cc
 small_is (Some (pos k)) n h = by (nat_lt k 4) refl h
@@ -78,7 +78,7 @@ small_is (Some (pos k)) n h = by (nat_lt k 4) refl h
     by true e h = let same : k ≡ n = cc in subst (λ (m : ℕ). m < 4) same (grind (arith, nat_tests))
     by false e h = cc
 
-level_asked : (words : List Bytes) (z : Option ℤ) (o : Option ℕ) (x : Parsed) → small z ≡ o → compact_of o ≡ Ok x → IsAskable words x
+level_asked : (words : List Bytes) (z : Option ℤ) (o : Option ℕ) (x : Parsed) → level_number z ≡ o → compact_of o ≡ Ok x → IsAskable words x
 level_asked words z None x e h = cc
 level_asked words z (Some n) x e h = plain_asked words (Upkeep (upkeep.Compact (Some n))) x (small_is z n e) h
 
@@ -97,7 +97,7 @@ kvr_asked words (w ∷ []) x h =
     (if_asked words (is (codes "flush") w) _ _ x (plain_asked words (Upkeep upkeep.Flush) x tt)
     (if_asked words (is (codes "compact") w) _ _ x (plain_asked words (Upkeep (upkeep.Compact None)) x tt)
     (if_asked words (is (codes "levels") w) _ _ x (plain_asked words (Upkeep upkeep.Levels) x tt) (no_asked words wrong.Syntax x))))) h
-kvr_asked words (w ∷ n ∷ []) x h = if_asked words (is (codes "compact") w) _ _ x (level_asked words (read_int n) (small (read_int n)) x refl) (no_asked words wrong.Syntax x) h
+kvr_asked words (w ∷ n ∷ []) x h = if_asked words (is (codes "compact") w) _ _ x (level_asked words (read_int n) (level_number (read_int n)) x refl) (no_asked words wrong.Syntax x) h
 kvr_asked words (w ∷ n ∷ m ∷ ws) x h = cc
 
 alone_asked : (words ws : List Bytes) (p x : Parsed) → IsAskable words p → alone p ws ≡ Ok x → IsAskable words x
@@ -113,8 +113,8 @@ session_asked words ws session.Kvr x h = kvr_asked words ws x h
 
 -- ---- all of them
 
-read_asked : (words ws : List Bytes) (w : ℕ) (n : Name) (x : Parsed) → Behind words ws w → read n w ws ≡ Ok x → IsAskable words x
-unfolding read
+read_asked : (words ws : List Bytes) (w : ℕ) (n : Name) (x : Parsed) → Behind words ws w → read_command n w ws ≡ Ok x → IsAskable words x
+unfolding read_command
 read_asked words ws w (name.NoKeys n) x b h = data_asked words ws w (of_no_keys n w ws) x b (λ c k. no_keys_good n (length ws) w ws c b.short (omega arith) k) h
 read_asked words ws w (name.Strings n) x b h = data_asked words ws w (of_strings n w ws) x b (λ c k. strings_good n (length ws) w ws c b.short (omega arith) k) h
 read_asked words ws w (name.Keys n) x b h = data_asked words ws w (of_keys n w ws) x b (λ c k. keys_good n (length ws) w ws c b.short (omega arith) k) h
@@ -124,5 +124,5 @@ read_asked words ws w (name.Sets n) x b h = data_asked words ws w (of_sets n w w
 read_asked words ws w (name.SortedSets n) x b h = data_asked words ws w (of_sorted_sets n w ws) x b (λ c k. sorted_sets_good n (length ws) w ws c b.short (omega arith) k) h
 read_asked words ws w (name.Session n) x b h = session_asked words ws n x h
 
-pub asked : (words ws : List Bytes) (first : Bytes) (w : ℕ) (n : Name) (x : Parsed) → AreRequestWords words → Parts words first ws → w ≡ weight_of words → read n w ws ≡ Ok x → IsAskable words x
+pub asked : (words ws : List Bytes) (first : Bytes) (w : ℕ) (n : Name) (x : Parsed) → AreRequestWords words → Parts words first ws → w ≡ weight_of words → read_command n w ws ≡ Ok x → IsAskable words x
 asked words ws first w n x r p e h = read_asked words ws w n x (behind words ws first w r p e) h

@@ -13,7 +13,7 @@ use Rattle.redis_model.specs.declared.command.Bound.{Bound}
 use Rattle.redis_model.specs.declared.command.Bound.TheVariants as bound
 use Rattle.redis_model.specs.Limits.{IsName, IsShort, IsWholeScore, IsBound, IsGivenTime}
 use Rattle.cmd_words.specs.Words.{is}
-use Rattle.cmd_words.specs.Bounds.{end_at, end_by, read_bound}
+use Rattle.cmd_words.specs.Bounds.{bound_at, end_by, read_bound}
 use Rattle.cmd_words.specs.Places.{Place, K, V, F, M, N, S, B, D, Count, NotLeast, Zero, TimeToLive, After, Until, Said, said, int_of, is_long, no_int, beyond, is_not_zero, too_long, not_int, bad_time, no_database}
 
 abbrev pub Fits : (p : Place) → Said p → Type 0
@@ -80,7 +80,7 @@ cond_bounded : (b : Bool) (o p : Option Bound) → Bounded o → Bounded p → B
 cond_bounded true o p h k = h
 cond_bounded false o p h k = k
 
-end_bounded : (past : Bool) (o : Option ℤ) → Whole o → Bounded (end_at past o)
+end_bounded : (past : Bool) (o : Option ℤ) → Whole o → Bounded (bound_at past o)
 end_bounded past None h = tt
 end_bounded true (Some z) h = h
 end_bounded false (Some z) h = h

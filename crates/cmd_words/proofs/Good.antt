@@ -11,7 +11,7 @@ use Rattle.redis_model.specs.declared.command.Command.{Command}
 use Rattle.cmd_words.specs.Places.{Place, K, F, N, Count, Said, said, too_long, is_long}
 use Rattle.cmd_words.specs.Reading.{Placed, ◌>>=◌, judged, judged_as, all_at, firsts, seconds, no_pairs, in_pairs, some, one_and_some, three_and_any, said1, said2, said3, said4, said_more, said_k_more, said_pairs, said_k_pairs, said_maybe, said_k_maybe}
 use Rattle.cmd_words.specs.Options.{said_range, flag}
-use Rattle.cmd_words.specs.Table.{of1, of2, of3, of4, more, k_more, pairs, k_pairs, maybe, k_maybe, ranged}
+use Rattle.cmd_words.specs.Table.{of1, of2, of3, of4, more, k_more, read_pairs, k_pairs, maybe, k_maybe, ranged}
 use Rattle.cmd_words.specs.declared.fault.FaultKind.{FaultKind}
 use Rattle.cmd_words.specs.declared.fault.FaultKind.TheVariants as wrong
 use Rattle.cmd_words.proofs.Fitting.{Fits, Passed, name_fits}
@@ -158,7 +158,7 @@ module _ (n w : ℕ) where
   taken true x y h = cc
   taken false x y h = (refl, cc)
 
-  pub pairs_good : (make : List Bytes → List Bytes → ℕ → Command) → ((xs ys : List Bytes) → 0 < length xs → length ys ≡ length xs → All IsName xs → All IsShort ys → length xs + length ys ≤ n → Good n w (make xs ys w)) → (ws : List Bytes) (c : Command) → All IsShort ws → length ws ≤ n → pairs K make w ws ≡ Ok c → Good n w c
+  pub pairs_good : (make : List Bytes → List Bytes → ℕ → Command) → ((xs ys : List Bytes) → 0 < length xs → length ys ≡ length xs → All IsName xs → All IsShort ys → length xs + length ys ≤ n → Good n w (make xs ys w)) → (ws : List Bytes) (c : Command) → All IsShort ws → length ws ≤ n → read_pairs K make w ws ≡ Ok c → Good n w c
   unfolding said_pairs in_pairs
   pairs_good make good ws c short few h =
       let s = steps (said_pairs K ws) (λ x. Ok (make x.0 x.1 w)) c h in

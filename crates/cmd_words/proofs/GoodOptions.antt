@@ -18,7 +18,7 @@ use Rattle.redis_model.specs.declared.command.When.TheVariants as when
 use Rattle.cmd_words.specs.Words.{is}
 use Rattle.cmd_words.specs.Places.{K, M, S, B, TimeToLive, said, int_of}
 use Rattle.cmd_words.specs.Reading.{Placed, judged, judged_as, all_at, firsts, seconds, no_pairs, one_and_two, two_and_any, three_and_any}
-use Rattle.cmd_words.specs.Options.{unit, amount, with_when, with_time, with_word, by_unit, set_options, no_options, set, range_options, no_range_options, limited, bounds, range_by_score}
+use Rattle.cmd_words.specs.Options.{unit, amount, with_when, with_time, with_word, by_unit, set_options, no_options, set_command, range_options, no_range_options, limited, bounds, range_by_score}
 use Rattle.cmd_words.specs.Add.{with_flag, or_else, flags, no_flags, off, how, scored, add}
 use Rattle.cmd_words.specs.declared.fault.FaultKind.{FaultKind}
 use Rattle.cmd_words.specs.declared.set_options.SetOptions.{SetOptions}
@@ -95,8 +95,8 @@ time_of : (o : Option (Result Expiry FaultKind)) (time : Expiry) → ((e : Expir
 time_of None time t h = let same : expiry.None ≡ time = cc in subst IsTime same tt
 time_of (Some r) time t h = t time (ap Some h)
 
-pub set_good : (n w : ℕ) (ws : List Bytes) (c : Command) → All IsShort ws → set w ws ≡ Ok c → Good n w c
-unfolding set
+pub set_good : (n w : ℕ) (ws : List Bytes) (c : Command) → All IsShort ws → set_command w ws ≡ Ok c → Good n w c
+unfolding set_command
 set_good n w ws c short h =
     let s = steps (two_and_any ws) _ c h in
     let x = s.middle in

@@ -5,7 +5,7 @@ use Rattle.std.proofs.lemmas.List.Elements.{All-cons, All-head, All-tail, All-ni
 use Rattle.kv_base.specs.Map.{Bytes}
 use Rattle.redis_model.specs.Limits.{IsShort}
 use Rattle.cmd_words.specs.Places.{Place, Said, said, too_long, off_pattern, not_int, not_score, bad_time, no_database}
-use Rattle.cmd_words.specs.Reading.{Placed, any, judged_as, ◌>>=◌, only, pair, triple, four, some, one_and_some, one_and_two, two_and_any, three_and_any, firsts, seconds, all_at, said1, said2, said3, said4}
+use Rattle.cmd_words.specs.Reading.{Placed, any, judged_as, ◌>>=◌, only, two_words, triple, four, some, one_and_some, one_and_two, two_and_any, three_and_any, firsts, seconds, all_at, said1, said2, said3, said4}
 use Rattle.cmd_words.specs.declared.fault.FaultKind.{FaultKind}
 use Rattle.cmd_words.specs.declared.fault.FaultKind.TheVariants as wrong
 use Rattle.cmd_words.proofs.Fitting.{Fits, Passed, fit, or_false_left, or_false_right}
@@ -105,8 +105,8 @@ only_right [] a h = cc
 only_right (x ∷ []) a h = cc
 only_right (x ∷ y ∷ ws) a h = cc
 
-pub pair_right : (ws : List Bytes) (x : Bytes × Bytes) → pair ws ≡ Ok x → ws ≡ x.0 ∷ x.1 ∷ []
-unfolding pair
+pub pair_right : (ws : List Bytes) (x : Bytes × Bytes) → two_words ws ≡ Ok x → ws ≡ x.0 ∷ x.1 ∷ []
+unfolding two_words
 pair_right [] x h = cc
 pair_right (a ∷ []) x h = cc
 pair_right (a ∷ b ∷ []) x h = cc
@@ -193,7 +193,7 @@ said1_fits p ws x short h =
 pub said2_fits : (p q : Place) (ws : List Bytes) (x : Said p × Said q) → All IsShort ws → said2 p q ws ≡ Ok x → Fits p x.0 × Fits q x.1
 unfolding said2
 said2_fits p q ws x short h =
-    let s = steps (pair ws) _ x h in
+    let s = steps (two_words ws) _ x h in
     let w = s.middle in
     let short_ = subst (All IsShort) (pair_right ws w s.first) short in
     let short_1 = All-tail IsShort w.0 (w.1 ∷ []) short_ in

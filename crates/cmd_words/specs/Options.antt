@@ -53,8 +53,8 @@ abbrev pub no_options : SetOptions
 no_options = record { when = None; time = None }
 
 -- a key, a value and the options: the key is judged, then the options, and then the amount
-unfoldable pub set : ℕ → List Bytes → Result Command FaultKind
-set weight ws = do
+unfoldable pub set_command : ℕ → List Bytes → Result Command FaultKind
+set_command weight ws = do
   x ← two_and_any ws
   o ← judged_as (is_none (set_options no_options x.2)) ((K, x.0) ∷ []) (unwrap_or (set_options no_options x.2) no_options)
   time ← unwrap_or o.time (Ok expiry.None)

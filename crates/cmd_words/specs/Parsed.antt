@@ -6,7 +6,7 @@ use Rattle.redis_model.specs.About.{weight}
 use Rattle.redis_model.specs.Limits.{IsWithin}
 use Rattle.cmd_words.specs.Words.{lower, weight_of}
 use Rattle.cmd_words.specs.Names.{named}
-use Rattle.cmd_words.specs.Table.{read}
+use Rattle.cmd_words.specs.Table.{read_command}
 use Rattle.cmd_words.specs.declared.name.Name.{Name}
 use Rattle.cmd_words.specs.declared.fault.FaultKind.{FaultKind}
 use Rattle.cmd_words.specs.declared.fault.FaultKind.TheVariants as wrong
@@ -16,28 +16,28 @@ use Rattle.cmd_words.specs.declared.parsed.Parsed.{Parsed}
 use Rattle.cmd_words.specs.declared.parsed.Parsed.TheVariants.{Data, Upkeep}
 
 -- two faults are told with the command's name
-abbrev pub told : Bytes → FaultKind → CommandFault
-told name wrong.Arity = fault.Arity name
-told name wrong.TooLong = fault.TooLong
-told name wrong.Syntax = fault.Syntax
-told name wrong.NotInt = fault.NotInt
-told name wrong.NotScore = fault.NotScore
-told name wrong.BadExpire = fault.BadExpire name
-told name wrong.BadIndex = fault.BadIndex
-told name wrong.NoMem = fault.NoMem
+abbrev pub named_fault : Bytes → FaultKind → CommandFault
+named_fault name wrong.Arity = fault.Arity name
+named_fault name wrong.TooLong = fault.TooLong
+named_fault name wrong.Syntax = fault.Syntax
+named_fault name wrong.NotInt = fault.NotInt
+named_fault name wrong.NotScore = fault.NotScore
+named_fault name wrong.BadExpire = fault.BadExpire name
+named_fault name wrong.BadIndex = fault.BadIndex
+named_fault name wrong.NoMem = fault.NoMem
 
 abbrev pub by_name : Bytes → Result Parsed FaultKind → Result Parsed CommandFault
 by_name name (Ok p) = Ok p
-by_name name (Err e) = Err (told name e)
+by_name name (Err e) = Err (named_fault name e)
 
-abbrev pub behind : Bytes → List Bytes → Option Name → Result Parsed CommandFault
-behind word ws None = Err fault.Unknown
-behind word ws (Some n) = by_name (lower word) (read n (weight_of (word ∷ ws)) ws)
+abbrev pub after_name : Bytes → List Bytes → Option Name → Result Parsed CommandFault
+after_name word ws None = Err fault.Unknown
+after_name word ws (Some n) = by_name (lower word) (read_command n (weight_of (word ∷ ws)) ws)
 
 -- The first word is the name. A fault comes with the name in lower case
 unfoldable pub parsed_as : List Bytes → Result Parsed CommandFault
 parsed_as [] = Err fault.Unknown
-parsed_as (word ∷ ws) = behind word ws (named word)
+parsed_as (word ∷ ws) = after_name word ws (named word)
 
 -- memory may run out for a data command and for the name of a fault, and for nothing else
 abbrev pub MayRunOut : {E : Type 0} → Result Parsed E → Type 0

@@ -39,9 +39,9 @@ unfoldable pub only : List Bytes → Result Bytes FaultKind
 only (a ∷ []) = Ok a
 only _ = Err wrong.Arity
 
-unfoldable pub pair : List Bytes → Result (Bytes × Bytes) FaultKind
-pair (a ∷ b ∷ []) = Ok (a, b)
-pair _ = Err wrong.Arity
+unfoldable pub two_words : List Bytes → Result (Bytes × Bytes) FaultKind
+two_words (a ∷ b ∷ []) = Ok (a, b)
+two_words _ = Err wrong.Arity
 
 unfoldable pub triple : List Bytes → Result (Bytes × Bytes × Bytes) FaultKind
 triple (a ∷ b ∷ c ∷ []) = Ok (a, b, c)
@@ -105,7 +105,7 @@ said1 p ws = do
 
 unfoldable pub said2 : (p q : Place) → List Bytes → Result (Said p × Said q) FaultKind
 said2 p q ws = do
-  x ← pair ws
+  x ← two_words ws
   judged ((p, x.0) ∷ (q, x.1) ∷ []) (said p x.0, said q x.1)
 
 unfoldable pub said3 : (p q r : Place) → List Bytes → Result (Said p × Said q × Said r) FaultKind

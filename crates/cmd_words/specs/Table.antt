@@ -9,7 +9,7 @@ use Rattle.redis_model.specs.declared.upkeep.Upkeep.TheVariants as upkeep
 use Rattle.cmd_words.specs.Words.{is}
 use Rattle.cmd_words.specs.Places.{Place, K, V, F, M, N, S, B, D, Count, NotLeast, Zero, TimeToLive, After, Until, Said}
 use Rattle.cmd_words.specs.Reading.{◌>>=◌, said1, said2, said3, said4, said_more, said_k_more, said_pairs, said_k_pairs, said_maybe, said_k_maybe}
-use Rattle.cmd_words.specs.Options.{set, range_by_score, said_range}
+use Rattle.cmd_words.specs.Options.{set_command, range_by_score, said_range}
 use Rattle.cmd_words.specs.Add.{add}
 use Rattle.cmd_words.specs.declared.fault.FaultKind.{FaultKind}
 use Rattle.cmd_words.specs.declared.fault.FaultKind.TheVariants as wrong
@@ -72,8 +72,8 @@ k_more p make weight ws = do
   Ok (make x.0 x.1 weight)
 
 -- one pair of a word and a value or more
-abbrev pub pairs : Place → (List Bytes → List Bytes → ℕ → Command) → Row
-pairs p make weight ws = do
+abbrev pub read_pairs : Place → (List Bytes → List Bytes → ℕ → Command) → Row
+read_pairs p make weight ws = do
   x ← said_pairs p ws
   Ok (make x.0 x.1 weight)
 
@@ -110,14 +110,14 @@ of_no_keys no_keys.Select = of1 Zero cmd.Select
 
 unfoldable pub of_strings : StringName → Row
 of_strings strings.Get = of1 K cmd.Get
-of_strings strings.Set = set
+of_strings strings.Set = set_command
 of_strings strings.SetNx = of2 K V cmd.SetNx
 of_strings strings.SetEx = of3 K (TimeToLive 1000) V cmd.SetEx
 of_strings strings.PSetEx = of3 K (TimeToLive 1) V cmd.PSetEx
 of_strings strings.GetSet = of2 K V cmd.GetSet
 of_strings strings.GetDel = of1 K cmd.GetDel
 of_strings strings.MGet = more K cmd.MGet
-of_strings strings.MSet = pairs K cmd.MSet
+of_strings strings.MSet = read_pairs K cmd.MSet
 of_strings strings.Append = of2 K V cmd.Append
 of_strings strings.StrLen = of1 K cmd.StrLen
 of_strings strings.GetRange = of3 K N N cmd.GetRange
@@ -205,9 +205,9 @@ abbrev pub alone : Parsed → List Bytes → Result Parsed FaultKind
 alone p ws = if length ws == 0 then Ok p else Err wrong.Arity
 
 -- a level from 0 to 3
-abbrev pub small : Option ℤ → Option ℕ
-small (Some (pos n)) = if nat_lt n 4 then Some n else None
-small _ = None
+abbrev pub level_number : Option ℤ → Option ℕ
+level_number (Some (pos n)) = if nat_lt n 4 then Some n else None
+level_number _ = None
 
 abbrev pub compact_of : Option ℕ → Result Parsed FaultKind
 compact_of None = Err wrong.NotInt
@@ -223,7 +223,7 @@ kvr (w ∷ []) =
     else if is (codes "compact") w then Ok (Upkeep (upkeep.Compact None))
     else if is (codes "levels") w then Ok (Upkeep upkeep.Levels)
     else Err wrong.Syntax
-kvr (w ∷ n ∷ []) = if is (codes "compact") w then compact_of (small (read_int n)) else Err wrong.Syntax
+kvr (w ∷ n ∷ []) = if is (codes "compact") w then compact_of (level_number (read_int n)) else Err wrong.Syntax
 kvr (w ∷ n ∷ m ∷ ws) = Err wrong.Syntax
 
 unfoldable pub of_session : SessionName → List Bytes → Result Parsed FaultKind
@@ -238,12 +238,12 @@ of_session session.Kvr = kvr
 abbrev pub data_of : Result Command FaultKind → Result Parsed FaultKind
 data_of r = r >>= λ c. Ok (Data c)
 
-unfoldable pub read : Name → ℕ → List Bytes → Result Parsed FaultKind
-read (name.NoKeys n) weight ws = data_of (of_no_keys n weight ws)
-read (name.Strings n) weight ws = data_of (of_strings n weight ws)
-read (name.Keys n) weight ws = data_of (of_keys n weight ws)
-read (name.Hashes n) weight ws = data_of (of_hashes n weight ws)
-read (name.Lists n) weight ws = data_of (of_lists n weight ws)
-read (name.Sets n) weight ws = data_of (of_sets n weight ws)
-read (name.SortedSets n) weight ws = data_of (of_sorted_sets n weight ws)
-read (name.Session n) weight ws = of_session n ws
+unfoldable pub read_command : Name → ℕ → List Bytes → Result Parsed FaultKind
+read_command (name.NoKeys n) weight ws = data_of (of_no_keys n weight ws)
+read_command (name.Strings n) weight ws = data_of (of_strings n weight ws)
+read_command (name.Keys n) weight ws = data_of (of_keys n weight ws)
+read_command (name.Hashes n) weight ws = data_of (of_hashes n weight ws)
+read_command (name.Lists n) weight ws = data_of (of_lists n weight ws)
+read_command (name.Sets n) weight ws = data_of (of_sets n weight ws)
+read_command (name.SortedSets n) weight ws = data_of (of_sorted_sets n weight ws)
+read_command (name.Session n) weight ws = of_session n ws

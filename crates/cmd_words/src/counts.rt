@@ -1,7 +1,7 @@
 //! The words of a command, where their number fits. Words are moved, and no function here takes memory.
 
 ghost use Rattle.std.specs.Prelude.{◌≡◌};
-ghost use Rattle.cmd_words.specs.Reading.{only, pair, triple, four, some, one_and_some, one_and_two, two_and_any, three_and_any};
+ghost use Rattle.cmd_words.specs.Reading.{only, two_words, triple, four, some, one_and_some, one_and_two, two_and_any, three_and_any};
 
 use crate::fault::FaultKind;
 use kv_base::{Blob, Blobs};
@@ -16,9 +16,9 @@ pub fn one(mut words: Blobs) -> Result<Blob, FaultKind>
     Ok(words.remove(0))
 }
 
-#[tactic(auto, unfolding(crate::specs::Reading::pair))]
+#[tactic(auto, unfolding(crate::specs::Reading::two_words))]
 pub fn two(mut words: Blobs) -> Result<(Blob, Blob), FaultKind>
-    ensures { result ≡ pair words }
+    ensures { result ≡ two_words words }
 {
     if words.len() != 2 {
         return Err(FaultKind::Arity);

@@ -1,6 +1,6 @@
 ghost use Rattle.std.specs.Prelude.{◌≡◌, ◌++◌, Err};
-ghost use Rattle.cmd_words.specs.Parsed.{told, IsParsed};
-ghost use Rattle.cmd_words.specs.Texts.{fault_text};
+ghost use Rattle.cmd_words.specs.Parsed.{named_fault, IsParsed};
+ghost use Rattle.cmd_words.specs.Texts.{command_fault_text};
 ghost use Rattle.cmd_words.specs.Words.{lower};
 
 use crate::case::lower_case;
@@ -54,7 +54,7 @@ pub struct FaultText<'a> {
 impl CommandFault {
     /// The error that the client is told, without the `-` before it and the line end. It takes no memory.
     pub fn text(&self) -> FaultText<'_>
-        ensures { result.before.now ++ result.name.now ++ result.after.now ≡ fault_text self.now }
+        ensures { result.before.now ++ result.name.now ++ result.after.now ≡ command_fault_text self.now }
     {
         match self {
             CommandFault::Unknown => FaultText::of(b"ERR unknown command"),
@@ -93,7 +93,7 @@ impl FaultText<'_> {
 impl FaultKind {
     /// The fault of the command of this name.
     pub fn told(self, alloc: Global, name: &Blob) -> CommandFault
-        ensures { IsParsed (Err result) (Err (told (lower name.now) self)) }
+        ensures { IsParsed (Err result) (Err (named_fault (lower name.now) self)) }
     {
         match self {
             FaultKind::Arity => match lower_case(alloc, name) {

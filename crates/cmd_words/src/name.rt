@@ -4,7 +4,7 @@ ghost use Rattle.std.specs.Prelude.{◌≡◌, slice_get, OnErr};
 ghost use Rattle.cmd_words.specs.Words.{lower};
 ghost use Rattle.cmd_words.specs.Names.{named, find_name, starting, shorter, longer};
 ghost use Rattle.cmd_words.specs.Reading.{IsToldOrNoMem};
-ghost use Rattle.cmd_words.specs.Table.{data_of, read};
+ghost use Rattle.cmd_words.specs.Table.{data_of, read_command};
 ghost use Rattle.cmd_words.specs.Parsed.{MayRunOut};
 
 use crate::case::is_word;
@@ -37,10 +37,10 @@ pub enum Name {
 
 impl Name {
     /// What the words behind this name are read into. They weigh so much together with it.
-    #[tactic(auto, unfolding(crate::specs::Table::read), using(crate::proofs::Memory::of_data, crate::proofs::Memory::tells_data))]
+    #[tactic(auto, unfolding(crate::specs::Table::read_command), using(crate::proofs::Memory::of_data, crate::proofs::Memory::tells_data))]
     pub fn read(self, alloc: Global, words: Blobs, weight: u64) -> Result<Parsed, FaultKind>
-        ensures table { IsToldOrNoMem result (read self weight words) }
-        ensures memory { OnErr result (MayRunOut (read self weight words)) }
+        ensures table { IsToldOrNoMem result (read_command self weight words) }
+        ensures memory { OnErr result (MayRunOut (read_command self weight words)) }
     {
         match self {
             Name::NoKeys(name) => data(name.read(words, weight)),

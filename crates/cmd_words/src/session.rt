@@ -1,6 +1,6 @@
 ghost use Rattle.std.specs.Prelude.{◌≡◌, ◌<◌, [], ◌∷◌, length, OnOk, IfErr};
 ghost use Rattle.kv_base.specs.Number.{read_int as int_at};
-ghost use Rattle.cmd_words.specs.Table.{small, kvr as kvr_row, of_session};
+ghost use Rattle.cmd_words.specs.Table.{level_number, kvr as kvr_row, of_session};
 
 use crate::case::is_word;
 use crate::fault::FaultKind;
@@ -60,7 +60,7 @@ fn is_alone(words: &Blobs) -> Result<(), FaultKind>
 
 /// A level from 0 to 3.
 fn level(word: &Blob) -> Option<u8>
-    ensures { result ≡ small (int_at word.now) }
+    ensures { result ≡ level_number (int_at word.now) }
 {
     match read_int(word.bytes()) {
         Some(level) if 0 <= level && level < 4 => Some(level as u8),

@@ -1,7 +1,7 @@
 //! SET and its options.
 
 ghost use Rattle.std.specs.Prelude.{◌≡◌, Option};
-ghost use Rattle.cmd_words.specs.Options.{unit as unit_at, amount as amount_at, with_when, with_time, with_word, set_options as set_options_at, set as set_row};
+ghost use Rattle.cmd_words.specs.Options.{unit as unit_at, amount as amount_at, with_when, with_time, with_word, set_options as set_options_at, set_command as set_row};
 
 use crate::case::is_word;
 use crate::counts::two_and_more;
@@ -106,7 +106,7 @@ fn set_options(words: &[Blob], so_far: SetOptions) -> Option<SetOptions>
     }
 }
 
-#[tactic(auto, unfolding(crate::specs::Options::set))]
+#[tactic(auto, unfolding(crate::specs::Options::set_command))]
 pub fn set(words: Blobs, weight: u64) -> Result<Command, FaultKind>
     ensures { result ≡ set_row weight words }
 {

@@ -41,7 +41,7 @@ use Rattle.redis_model.specs.declared.history.Note.{Note}
 use Rattle.redis_model.specs.declared.history.Note.TheVariants.{Appended}
 use Rattle.redis_model.specs.declared.history.ReadView.{ReadView}
 use Rattle.redis_model.specs.Places.{appended_by, put_before, sequences, state_at, steps_of, Opening, GoUp}
-use Rattle.core_model.specs.Core.{PinAt, CoreState, newest, pin_at, event_moment, raised}
+use Rattle.core_model.specs.Core.{PinAt, CoreState, newest_rows, pin_at, event_moment, raised}
 use Rattle.core_model.specs.Stands.{MeansKeys, ArePinned, AreKept, AreCounted, IsMarked, IsSeenView, Stands}
 use Rattle.lives_model.specs.Issued.{IsIssuedRow}
 use Rattle.core_model.specs.Events.{entry_with, counts_on, core_with_batch, batch_place}
@@ -64,7 +64,7 @@ pub record IsCarried (core : CoreState) (s : State) (moment : ℕ) (ds : Cmds) (
   pub asked : AreAsked ds
   pub texts : IsTrue (are_rows batch.entries)
   pub reply : answer ≡ (fold (alive s.keys moment) moment ds).0
-  pub means : Means (after (newest core) batch) moment (fold (alive s.keys moment) moment ds).1
+  pub means : Means (after (newest_rows core) batch) moment (fold (alive s.keys moment) moment ds).1
   pub issued : (row : Row) → Contains (batch_rows (core.last + 1) batch) row → IsIssuedRow row
   pub names : (raw : Bytes) → IsSome (get batch raw) → IsAmong (keys_in ds) raw
 
@@ -182,7 +182,7 @@ module _ (opening : Opening) (core : CoreState) (seen : List Place) (now caller 
   old_upto = subst (λ (rows : List Row). IsTrue (are_upto core.last rows)) old_rows stands.rows.upto
 
   -- the newest rows are those before, changed by the batch
-  pub newest_new : newest new ≡ after (newest core) batch
+  pub newest_new : newest_rows new ≡ after (newest_rows core) batch
   newest_new = ap (λ (rows : List Row). at rows (core.last + 1)) new_rows ∙ at_with_batch core.sources.memory rest core.last batch old_upto
       ∙ ap (λ (rows : List Row). after (at rows core.last) batch) (sym old_rows)
 
@@ -277,9 +277,9 @@ module _ (opening : Opening) (core : CoreState) (seen : List Place) (now caller 
   append_answers = ap (λ (r : Option Reply × State). r.0) (entry_step s now caller ds)
       ∙ ap (λ (t : ℕ). Some (fold (alive s.keys t) t ds).0) (sym at_it) ∙ ap (λ (r : Reply). Some r) (sym carried.reply)
 
-  new_means : Means (newest new) moment (alive carried_out moment)
+  new_means : Means (newest_rows new) moment (alive carried_out moment)
   new_means =
-      subst (Means (newest new) moment) (sym (alive_means (after (newest core) batch) moment carried_out carried.means))
+      subst (Means (newest_rows new) moment) (sym (alive_means (after (newest_rows core) batch) moment carried_out carried.means))
       (subst (λ (c : Rows). Means c moment carried_out) (sym newest_new) carried.means)
 
   new_pinned : (ps : List PinAt) (qs : List Pin) → ArePinned core ps qs → ArePinned new ps qs
@@ -328,11 +328,11 @@ module _ (opening : Opening) (core : CoreState) (seen : List Place) (now caller 
   -- ---- what ticks saw
 
   -- of keys of another stripe the same counts
-  others_alike : (c : Rows) (k : Bytes) → IsTrue (is_key k) → counts_on ds (stripe k) ≡ false → CountsAlike c (newest core) moment k → CountsAlike c (newest new) moment k
+  others_alike : (c : Rows) (k : Bytes) → IsTrue (is_key k) → counts_on ds (stripe k) ≡ false → CountsAlike c (newest_rows core) moment k → CountsAlike c (newest_rows new) moment k
   others_alike c k key other alike =
       subst (λ (d : Rows). CountsAlike c d moment k) (sym newest_new)
-      (alike_through c (newest core) (after (newest core) batch) moment k alike
-      (alike_after (newest core) batch moment k key (no_meta_of_others ds batch carried.asked carried.names k key never) (no_row_of_others ds batch carried.asked carried.names k key never)))
+      (alike_through c (newest_rows core) (after (newest_rows core) batch) moment k alike
+      (alike_after (newest_rows core) batch moment k key (no_meta_of_others ds batch carried.asked carried.names k key never) (no_row_of_others ds batch carried.asked carried.names k key never)))
     where
       never : IsTrue (among (keys_in ds) k) → ⊥
       never named = let yes = named_is_counted ds k named in cc
@@ -349,7 +349,7 @@ module _ (opening : Opening) (core : CoreState) (seen : List Place) (now caller 
       by_grown true e = let l = new_length b true e in let a = is.grown in omega (arith, l)
       by_grown false e = let l = new_length b false e in let a = is.grown in omega (arith, l)
 
-      by_same : (g : Bool) → counts_on ds b ≡ g → mark ≡ length (sequences_of b (with_place seen place)) → (k : Bytes) → IsTrue (is_key k) → stripe k ≡ b → CountsAlike view.rows.map (newest new) moment k
+      by_same : (g : Bool) → counts_on ds b ≡ g → mark ≡ length (sequences_of b (with_place seen place)) → (k : Bytes) → IsTrue (is_key k) → stripe k ≡ b → CountsAlike view.rows.map (newest_rows new) moment k
       by_same true e whole k key of = let l = new_length b true e in let a = is.grown in absurd (omega (arith, l, whole, a))
       by_same false e whole k key of =
           others_alike view.rows.map k key (ap (counts_on ds) of ∙ e)

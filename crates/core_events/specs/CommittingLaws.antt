@@ -40,7 +40,7 @@ use Rattle.redis_model.specs.declared.history.Note.{Note}
 use Rattle.redis_model.specs.declared.history.Note.TheVariants.{Bare, Appended}
 use Rattle.redis_model.specs.declared.history.ReadView.{ReadView}
 use Rattle.redis_model.specs.Places.{state_at, steps_of, Opening}
-use Rattle.core_model.specs.Core.{CoreState, newest, pin_at, event_moment, raised}
+use Rattle.core_model.specs.Core.{CoreState, newest_rows, pin_at, event_moment, raised}
 use Rattle.core_model.specs.Stands.{ArePinned, IsSeenView, IsMarked, Stands}
 use Rattle.core_model.specs.Events.{entry_with, batch_place, tick, Appends, Work, CanCommit, Commits, Reruns, PlaysCommands}
 use Rattle.core_model.specs.RowsLaws.{at_on_grammar}
@@ -69,9 +69,9 @@ module _ (opening : Opening) (core : CoreState) (seen : List Place) (now caller 
   -- a batch that is empty leaves the keys
   keys_stay : batch ≡ empty → (fold (alive s.keys (event_moment core now)) (event_moment core now) ds).1 ≡ alive s.keys (event_moment core now)
   keys_stay none =
-      means_one (newest core) (event_moment core now) (fold (alive s.keys (event_moment core now)) (event_moment core now) ds).1 (alive s.keys (event_moment core now))
-      (subst (λ (c : Rows). Means c (event_moment core now) (fold (alive s.keys (event_moment core now)) (event_moment core now) ds).1) (ap (after (newest core)) none ∙ after-empty (newest core)) carried.means)
-      (later_keys (newest core) core.floor (event_moment core now) s.keys (omega arith) stands.keys.means)
+      means_one (newest_rows core) (event_moment core now) (fold (alive s.keys (event_moment core now)) (event_moment core now) ds).1 (alive s.keys (event_moment core now))
+      (subst (λ (c : Rows). Means c (event_moment core now) (fold (alive s.keys (event_moment core now)) (event_moment core now) ds).1) (ap (after (newest_rows core)) none ∙ after-empty (newest_rows core)) carried.means)
+      (later_keys (newest_rows core) core.floor (event_moment core now) s.keys (omega arith) stands.keys.means)
 
   only_raises : batch ≡ empty → OnlyRaises s (step s (entry_with now caller ds)).1 now
   only_raises none = subst (λ (t : State). OnlyRaises s t now) (sym (ap (λ (r : Option Reply × State). r.1) (entry_step s now caller ds))) (record {
@@ -105,20 +105,20 @@ module _ (opening : Opening) (core : CoreState) (seen : List Place) (now caller 
 
 -- at a moment that is not before the floor
 pub planned_carried : (opening : Opening) (core : CoreState) (seen : List Place) (now : ℕ) (ds : Cmds) (batch : Batch) (answer : Reply) (until : Option ℕ) → Stands opening core seen → AreAsked ds → IsTrue (are_rows batch.entries)
-    → IsPlanned (newest core) (event_moment core now) core.last ds batch answer until → IsCarried core (state_at opening.state seen) (event_moment core now) ds batch answer
+    → IsPlanned (newest_rows core) (event_moment core now) core.last ds batch answer until → IsCarried core (state_at opening.state seen) (event_moment core now) ds batch answer
 planned_carried opening core seen now ds batch answer until stands asked texts planned = record {
   asked = asked;
   texts = texts;
   reply = done.0;
   means = done.1;
-  issued = committed_rows_issued (newest core) moment core.last (core.last + 1) keys ds batch answer until (record {
+  issued = committed_rows_issued (newest_rows core) moment core.last (core.last + 1) keys ds batch answer until (record {
     asked = asked;
     means = means;
     issued = issued;
     plan = plan;
     later = omega arith;
   });
-  names = plan_names (newest core) moment core.last keys ds batch answer until plan;
+  names = plan_names (newest_rows core) moment core.last keys ds batch answer until plan;
 }
   where
     moment : ℕ
@@ -127,19 +127,19 @@ planned_carried opening core seen now ds batch answer until stands asked texts p
     keys : RedisMap
     keys = alive (state_at opening.state seen).keys (event_moment core now)
 
-    means : Means (newest core) (event_moment core now) (alive (state_at opening.state seen).keys (event_moment core now))
-    means = later_keys (newest core) core.floor (event_moment core now) (state_at opening.state seen).keys (omega arith) stands.keys.means
+    means : Means (newest_rows core) (event_moment core now) (alive (state_at opening.state seen).keys (event_moment core now))
+    means = later_keys (newest_rows core) core.floor (event_moment core now) (state_at opening.state seen).keys (omega arith) stands.keys.means
 
-    issued : IsIssued (newest core) core.last
+    issued : IsIssued (newest_rows core) core.last
     issued = shown_is_issued (rows_in core.sources) core.last stands.rows.issued
 
-    plan : IsPlanFor (newest core) (event_moment core now) core.last (alive (state_at opening.state seen).keys (event_moment core now)) ds batch answer until
+    plan : IsPlanFor (newest_rows core) (event_moment core now) core.last (alive (state_at opening.state seen).keys (event_moment core now)) ds batch answer until
     plan = planned.plan (alive (state_at opening.state seen).keys (event_moment core now)) means
-        (issued_is_ready (newest core) (event_moment core now) core.last ds stands.counts.limit asked issued)
+        (issued_is_ready (newest_rows core) (event_moment core now) core.last ds stands.counts.limit asked issued)
 
     done : (answer ≡ (fold (alive (state_at opening.state seen).keys (event_moment core now)) (event_moment core now) ds).0)
-        × Means (after (newest core) batch) (event_moment core now) (fold (alive (state_at opening.state seen).keys (event_moment core now)) (event_moment core now) ds).1
-    done = plan_means (newest core) (event_moment core now) core.last (alive (state_at opening.state seen).keys (event_moment core now)) ds batch answer until means plan
+        × Means (after (newest_rows core) batch) (event_moment core now) (fold (alive (state_at opening.state seen).keys (event_moment core now)) (event_moment core now) ds).1
+    done = plan_means (newest_rows core) (event_moment core now) core.last (alive (state_at opening.state seen).keys (event_moment core now)) ds batch answer until means plan
 
 -- commands that are planned and carried out in one event
 pub play_stands : (opening : Opening) (core new : CoreState) (seen : List Place) (caller now : ℕ) (ds : Cmds) (batch : Batch) (answer : Reply) (note : Note) → Stands opening core seen → PlaysCommands core new caller now ds batch answer note
@@ -178,7 +178,7 @@ rerun_stands opening core new seen caller now ds view batch answer note stands r
     let same = same_core core now was.early in
     carried_stands opening core seen now caller ds batch answer stands
     (planned_carried opening core seen now ds batch answer reruns.until stands reruns.own.asked reruns.own.rows
-    (subst (λ (t : ℕ). IsPlanned (newest core) t core.last ds batch answer reruns.until) (sym (ap (λ (c : CoreState). c.floor) same)) reruns.plan))
+    (subst (λ (t : ℕ). IsPlanned (newest_rows core) t core.last ds batch answer reruns.until) (sym (ap (λ (c : CoreState). c.floor) same)) reruns.plan))
     reruns.own.free new note (subst (λ (c : CoreState). Appends c new ds batch note) (sym same) reruns.appends)
 
 -- ---- commit
@@ -220,7 +220,7 @@ module _ (opening : Opening) (core : CoreState) (seen : List Place) (w : Work) (
     not_newer row side v subkey there low fits is = own_not_newer row there (inr (record { side = side; version = v; subkey = subkey; fits = fits; is = is }))
 
   -- what counts of the keys is what was seen, and no version is newer
-  pub still_ready : IsStillReady w.view.rows.map (newest core) core.floor w.view.seq (keys_in w.ds)
+  pub still_ready : IsStillReady w.view.rows.map (newest_rows core) core.floor w.view.seq (keys_in w.ds)
   still_ready = record {
     alike = λ k named. (mark_of k named).same (whole k named) k (asked_keys w.ds k can.own.asked named) refl;
     above = λ k named. fresh_by_rows (rows_in core.sources) core.last w.view.seq k (asked_keys w.ds k can.own.asked named) stands.rows.issued (not_newer k named);
@@ -240,8 +240,8 @@ module _ (opening : Opening) (core : CoreState) (seen : List Place) (w : Work) (
   keys = alive (state_at opening.state seen).keys core.floor
 
   -- is one on the newest rows, where it has not lapsed
-  pub new_plan : IsFalse (lapses w.view.moment core.floor w.until w.ds) → IsPlanFor (newest core) core.floor w.view.seq keys w.ds w.batch w.answer w.until
-  new_plan current = still_plan w.view.rows.map (newest core) w.view.moment core.floor w.view.seq was.state.keys keys w.batch w.answer w.until w.ds (record {
+  pub new_plan : IsFalse (lapses w.view.moment core.floor w.until w.ds) → IsPlanFor (newest_rows core) core.floor w.view.seq keys w.ds w.batch w.answer w.until
+  new_plan current = still_plan w.view.rows.map (newest_rows core) w.view.moment core.floor w.view.seq was.state.keys keys w.batch w.answer w.until w.ds (record {
     on_grammar = was.holds.grammar;
     on_grammar_too = at_on_grammar (rows_in core.sources) core.last stands.rows.grammar;
     means = was.holds.means;
@@ -256,7 +256,7 @@ module _ (opening : Opening) (core : CoreState) (seen : List Place) (w : Work) (
   -- so it carries the commands out there
   pub commit_carried : IsFalse (lapses w.view.moment core.floor w.until w.ds) → IsCarried core (state_at opening.state seen) core.floor w.ds w.batch w.answer
   commit_carried current =
-      let done = plan_means (newest core) core.floor w.view.seq keys w.ds w.batch w.answer w.until stands.keys.means (new_plan current) in
+      let done = plan_means (newest_rows core) core.floor w.view.seq keys w.ds w.batch w.answer w.until stands.keys.means (new_plan current) in
       record {
         asked = can.own.asked;
         texts = can.own.rows;

@@ -19,7 +19,7 @@ use Rattle.core_model.specs.Places.{OpenJob, appended_at, sequences_of, OfTick, 
 use Rattle.redis_model.specs.declared.history.Place.{Place}
 use Rattle.redis_model.specs.declared.history.ReadView.{ReadView}
 use Rattle.redis_model.specs.Places.{appended_by, put_before, sequences, state_at, Opening, GoUp}
-use Rattle.core_model.specs.Core.{PinAt, Compaction, CoreState, newest, is_at, pin_at, event_moment, raised}
+use Rattle.core_model.specs.Core.{PinAt, Compaction, CoreState, newest_rows, is_at, pin_at, event_moment, raised}
 use Rattle.core_model.specs.Stands.{ArePinned, AreCounted, IsMarked, IsSeenView, HasJobs, IsOpenFlush, IsOpenCompaction, IsSince}
 use Rattle.core_model.specs.AlikeLaws.{alike_later}
 use Rattle.core_model.specs.RowsLaws.{at_on_grammar}
@@ -60,7 +60,7 @@ still_counted opening core new seen p quiet last books rows counted = record {
 pub record KeepsViews (core new : CoreState) : Type 0 where
   pub last : core.last ≤ new.last
   pub floor : core.floor ≤ new.floor
-  pub alike : (c : Rows) (k : Bytes) → IsOnGrammar c → IsTrue (is_key k) → CountsAlike c (newest core) core.floor k → CountsAlike c (newest new) new.floor k
+  pub alike : (c : Rows) (k : Bytes) → IsOnGrammar c → IsTrue (is_key k) → CountsAlike c (newest_rows core) core.floor k → CountsAlike c (newest_rows new) new.floor k
 
 still_marked : (core new : CoreState) (seen : List Place) (p : Place) (view : ReadView) (b mark : ℕ) → WritesNothing p → KeepsViews core new → IsOnGrammar view.rows.map → IsMarked core seen view b mark → IsMarked new (with_place seen p) view b mark
 still_marked core new seen p view b mark quiet keeps on is = record {
@@ -167,5 +167,5 @@ pub raised_keeps : (core : CoreState) (now : ℕ) → IsTrue (are_row_texts (row
 raised_keeps core now texts = record {
   last = omega arith;
   floor = omega arith;
-  alike = λ c k on key alike. alike_later c (newest core) core.floor (event_moment core now) k on (at_on_grammar (rows_in core.sources) core.last texts) key (omega arith) alike;
+  alike = λ c k on key alike. alike_later c (newest_rows core) core.floor (event_moment core now) k on (at_on_grammar (rows_in core.sources) core.last texts) key (omega arith) alike;
 }

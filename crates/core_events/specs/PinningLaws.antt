@@ -29,7 +29,7 @@ use Rattle.core_model.specs.Sources.{rows_in}
 use Rattle.redis_model.specs.declared.history.Place.{Place}
 use Rattle.redis_model.specs.declared.history.Note.TheVariants.{Bare}
 use Rattle.redis_model.specs.Places.{state_at, Opening}
-use Rattle.core_model.specs.Core.{PinAt, CoreState, newest, is_at, pin_at, event_moment, raised}
+use Rattle.core_model.specs.Core.{PinAt, CoreState, newest_rows, is_at, pin_at, event_moment, raised}
 use Rattle.core_model.specs.Stands.{IsPinned, ArePinned, Stands}
 use Rattle.core_model.specs.Events.{Reads, Pins, Unpins, LooksPinned, RefusesPinned, bare_place, with_pin, without_pin, pin_answer, unpin_answer}
 use Rattle.lives_model.specs.IssuedRowLaws.{shown_is_issued}
@@ -46,21 +46,21 @@ no_rows = refl
 
 -- its plan writes nothing
 reading_writes_none : (opening : Opening) (core : CoreState) (seen : List Place) (now : ℕ) (c : Command) (batch : Batch) (answer : Reply) (until : Option ℕ) → Stands opening core seen → AreAsked (One c) → IsFalse (writes c)
-    → IsPlanned (newest core) (event_moment core now) core.last (One c) batch answer until → batch ≡ empty
+    → IsPlanned (newest_rows core) (event_moment core now) core.last (One c) batch answer until → batch ≡ empty
 reading_writes_none opening core seen now c batch answer until stands asked reads planned =
     let keys : RedisMap = alive (state_at opening.state seen).keys (event_moment core now) in
-    let means : Means (newest core) (event_moment core now) keys = later_keys (newest core) core.floor (event_moment core now) (state_at opening.state seen).keys (omega arith) stands.keys.means in
-    let issued : IsIssued (newest core) core.last = shown_is_issued (rows_in core.sources) core.last stands.rows.issued in
-    let plan : IsPlanFor (newest core) (event_moment core now) core.last keys (One c) batch answer until =
-    planned.plan keys means (issued_is_ready (newest core) (event_moment core now) core.last (One c) stands.counts.limit asked issued) in
-    reading_step (newest core) (event_moment core now) _ keys c batch answer plan.step reads
+    let means : Means (newest_rows core) (event_moment core now) keys = later_keys (newest_rows core) core.floor (event_moment core now) (state_at opening.state seen).keys (omega arith) stands.keys.means in
+    let issued : IsIssued (newest_rows core) core.last = shown_is_issued (rows_in core.sources) core.last stands.rows.issued in
+    let plan : IsPlanFor (newest_rows core) (event_moment core now) core.last keys (One c) batch answer until =
+    planned.plan keys means (issued_is_ready (newest_rows core) (event_moment core now) core.last (One c) stands.counts.limit asked issued) in
+    reading_step (newest_rows core) (event_moment core now) _ keys c batch answer plan.step reads
 
 -- a reading command is answered
 pub read_stands : (opening : Opening) (core new : CoreState) (seen : List Place) (now caller : ℕ) (c : Command) (answer : Reply) → Stands opening core seen → Reads core new now caller c answer
     → Stands opening new (with_place seen (bare_place (Call now caller c))) × ((step (state_at opening.state seen) (Call now caller c)).0 ≡ Some answer)
 read_stands opening core new seen now caller c answer stands reads =
-    let plan : IsPlanned (newest core) (event_moment core now) core.last (One c) reads.batch answer reads.until =
-    subst (λ (x : CoreState). IsPlanned (newest x) x.floor x.last (One c) reads.batch answer reads.until) reads.core reads.plan in
+    let plan : IsPlanned (newest_rows core) (event_moment core now) core.last (One c) reads.batch answer reads.until =
+    subst (λ (x : CoreState). IsPlanned (newest_rows x) x.floor x.last (One c) reads.batch answer reads.until) reads.core reads.plan in
     let none = reading_writes_none opening core seen now c reads.batch answer reads.until stands reads.asked reads.reads plan in
     carried_stands opening core seen now caller (One c) reads.batch answer stands
     (planned_carried opening core seen now (One c) reads.batch answer reads.until stands reads.asked (subst (λ (b : Batch). IsTrue (are_rows b.entries)) (sym none) no_rows) plan) reads.free new Bare
@@ -147,8 +147,8 @@ pin_stands opening core new seen now caller answer stands pins =
         (record { caller = caller; seen = (at_moment (state_at opening.state seen) now).keys; moment = (at_moment (state_at opening.state seen) now).floor })) (sym e) (record {
           caller = refl;
           moment = same;
-          means = subst (λ (t : ℕ). Means (newest core) (event_moment core now) (alive (state_at opening.state seen).keys t)) same
-              (later_keys (newest core) core.floor (event_moment core now) (state_at opening.state seen).keys (omega arith) stands.keys.means);
+          means = subst (λ (t : ℕ). Means (newest_rows core) (event_moment core now) (alive (state_at opening.state seen).keys t)) same
+              (later_keys (newest_rows core) core.floor (event_moment core now) (state_at opening.state seen).keys (omega arith) stands.keys.means);
           written = omega arith;
           past = omega arith;
         })

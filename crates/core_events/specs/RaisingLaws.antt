@@ -27,7 +27,7 @@ use Rattle.redis_model.specs.declared.history.Note.{Note}
 use Rattle.redis_model.specs.declared.history.Note.TheVariants.{Bare, Saw, Appended, Began, Found, Counted}
 use Rattle.redis_model.specs.declared.history.ReadView.{ReadView}
 use Rattle.redis_model.specs.Places.{appended_by, put_before, sequences, state_at, steps_of, Opening, GoUp}
-use Rattle.core_model.specs.Core.{PinAt, CoreState, newest, event_moment, raised}
+use Rattle.core_model.specs.Core.{PinAt, CoreState, newest_rows, event_moment, raised}
 use Rattle.core_model.specs.Stands.{MeansKeys, ArePinned, IsSeenView, Stands}
 use Rattle.core_model.specs.Events.{Glances, tick}
 use Rattle.core_model.specs.RowsLaws.{at_on_grammar}
@@ -102,11 +102,11 @@ all_of_stripe p b (q ∷ seen) h = by_part (appended_at b q.what q.note) (append
     by_part a o (inr is) h rest = ap (λ (x : Option ℕ). list_all p (put_before x (sequences_of b seen))) is ∙ same_passes o h (rest (rest_passes o h))
 
 -- what all pass the first do
-pub all_taken : (p : ℕ → Bool) (k : ℕ) (ns : List ℕ) → list_all p ns ≡ true → list_all p (take k ns) ≡ true
-all_taken p zero ns h = refl
-all_taken p (suc k) [] h = refl
-all_taken p (suc k) (n ∷ ns) h =
-    ap (λ (t : Bool). t && list_all p (take k ns)) (both_first (p n) (list_all p ns) h) ∙ all_taken p k ns (both_second (p n) (list_all p ns) h)
+pub taken_pass : (p : ℕ → Bool) (k : ℕ) (ns : List ℕ) → list_all p ns ≡ true → list_all p (take k ns) ≡ true
+taken_pass p zero ns h = refl
+taken_pass p (suc k) [] h = refl
+taken_pass p (suc k) (n ∷ ns) h =
+    ap (λ (t : Bool). t && list_all p (take k ns)) (both_first (p n) (list_all p ns) h) ∙ taken_pass p k ns (both_second (p n) (list_all p ns) h)
 
 -- ---- a place that appends nothing
 
@@ -127,7 +127,7 @@ raised_keys : (core : CoreState) (s after : State) (now : ℕ) (pins : List PinA
 raised_keys core s after now pins keys raises = record {
   floor = same ∙ sym raises.floor;
   early = let a = keys.early in omega arith;
-  means = subst (Means (newest core) (event_moment core now)) there (later_keys (newest core) core.floor (event_moment core now) s.keys (omega arith) keys.means);
+  means = subst (Means (newest_rows core) (event_moment core now)) there (later_keys (newest_rows core) core.floor (event_moment core now) s.keys (omega arith) keys.means);
 }
   where
     same : event_moment core now ≡ machine.moment_at s now
@@ -194,9 +194,9 @@ glance_sees opening core new seen now caller view stands g = record {
   past = omega (arith, there);
   grammar = subst IsOnGrammar (sym g.rows) (at_on_grammar (rows_in core.sources) core.last stands.rows.grammar);
   means = subst (λ (c : Rows). Means c view.moment (alive s.keys (machine.moment_at s now))) (sym g.rows)
-      (subst (λ (t : ℕ). Means (newest core) t (alive s.keys (machine.moment_at s now))) (sym there)
-      (subst (λ (t : ℕ). Means (newest core) (event_moment core now) (alive s.keys t)) same
-      (later_keys (newest core) core.floor (event_moment core now) s.keys (omega arith) stands.keys.means)));
+      (subst (λ (t : ℕ). Means (newest_rows core) t (alive s.keys (machine.moment_at s now))) (sym there)
+      (subst (λ (t : ℕ). Means (newest_rows core) (event_moment core now) (alive s.keys t)) same
+      (later_keys (newest_rows core) core.floor (event_moment core now) s.keys (omega arith) stands.keys.means)));
   issued = subst (IsIssued view.rows.map) (sym g.seq) (subst (λ (c : Rows). IsIssued c core.last) (sym g.rows) (shown_is_issued (rows_in core.sources) core.last stands.rows.issued));
   marks = λ b mark marked.
       let low_mark = g.marks b mark marked in
@@ -204,10 +204,10 @@ glance_sees opening core new seen now caller view stands g = record {
       record {
         grown = omega (arith, all);
         old = subst (λ (n : ℕ). IsTrue (list_all (λ x. nat_le x n) (take mark (sequences_of b (with_place seen (tick now caller view)))))) (sym g.seq)
-            (all_taken (λ x. nat_le x core.last) mark (sequences_of b (with_place seen (tick now caller view)))
+            (taken_pass (λ x. nat_le x core.last) mark (sequences_of b (with_place seen (tick now caller view)))
             (ap (list_all (λ x. nat_le x core.last)) (same_sequences_of b seen (tick now caller view) (tick_quiet now caller view))
             ∙ all_of_stripe (λ x. nat_le x core.last) b seen (up_all opening.last (sequences seen) core.last stands.counts.rising)));
-        same = λ whole k key of. alike_clean view.rows.map (newest core) (event_moment core now) k (ap (λ (c : Rows). clean c (event_moment core now)) g.rows);
+        same = λ whole k key of. alike_clean view.rows.map (newest_rows core) (event_moment core now) k (ap (λ (c : Rows). clean c (event_moment core now)) g.rows);
       };
 }
   where

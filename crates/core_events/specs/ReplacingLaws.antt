@@ -24,7 +24,7 @@ use Rattle.core_model.specs.Places.{OpenJob, sequences_of, open_flush, open_comp
 use Rattle.redis_model.specs.declared.history.Place.{Place}
 use Rattle.redis_model.specs.declared.history.Note.{Note}
 use Rattle.redis_model.specs.Places.{sequences, state_at, Opening, GoUp}
-use Rattle.core_model.specs.Core.{PinAt, Flush, Compaction, CoreState, newest}
+use Rattle.core_model.specs.Core.{PinAt, Flush, Compaction, CoreState, newest_rows}
 use Rattle.core_model.specs.Stands.{MeansKeys, ArePinned, AreKept, AreCounted, IsOpenFlush, IsOpenCompaction, HasJobs, Stands}
 use Rattle.core_model.specs.Events.{mark}
 use Rattle.core_model.specs.AlikeLaws.{alike_through, alike_clean}
@@ -66,7 +66,7 @@ module _ (opening : Opening) (core new : CoreState) (seen : List Place) (caller 
   on_too : (q : ℕ) → IsOnGrammar (at (rows_in new.sources) q)
   on_too q = at_on_grammar (rows_in new.sources) q keeps.rows.grammar
 
-  same_newest : newest new ≡ at (rows_in new.sources) core.last
+  same_newest : newest_rows new ≡ at (rows_in new.sources) core.last
   same_newest = ap (at (rows_in new.sources)) keeps.last
 
   new_views : KeepsViews core new
@@ -74,19 +74,19 @@ module _ (opening : Opening) (core new : CoreState) (seen : List Place) (caller 
     last = let e = keeps.last in omega (arith, e);
     floor = let e = keeps.floor in omega (arith, e);
     alike = λ c key fits short alike.
-        subst (λ (t : ℕ). CountsAlike c (newest new) t key) (sym keeps.floor)
+        subst (λ (t : ℕ). CountsAlike c (newest_rows new) t key) (sym keeps.floor)
         (subst (λ (d : Rows). CountsAlike c d core.floor key) (sym same_newest)
-        (alike_through c (newest core) (at (rows_in new.sources) core.last) core.floor key alike
-        (alike_clean (newest core) (at (rows_in new.sources) core.last) core.floor key keeps.newest_too)));
+        (alike_through c (newest_rows core) (at (rows_in new.sources) core.last) core.floor key alike
+        (alike_clean (newest_rows core) (at (rows_in new.sources) core.last) core.floor key keeps.newest_too)));
   }
 
   new_keys : MeansKeys new s
   new_keys = record {
     floor = keeps.floor ∙ stands.keys.floor;
     early = let a = stands.keys.early in let e = keeps.floor in omega (arith, e);
-    means = subst (λ (t : ℕ). Means (newest new) t (alive s.keys t)) (sym keeps.floor)
+    means = subst (λ (t : ℕ). Means (newest_rows new) t (alive s.keys t)) (sym keeps.floor)
         (subst (λ (c : Rows). Means c core.floor (alive s.keys core.floor)) (sym same_newest)
-        (clean_means (newest core) (at (rows_in new.sources) core.last) core.floor (alive s.keys core.floor) (on core.last) (on_too core.last) keeps.newest_too stands.keys.means));
+        (clean_means (newest_rows core) (at (rows_in new.sources) core.last) core.floor (alive s.keys core.floor) (on core.last) (on_too core.last) keeps.newest_too stands.keys.means));
   }
 
   new_pins : ArePinned new new.pins s.pins

@@ -14,14 +14,14 @@ use Rattle.redis_model.specs.Places.{Opening}
 use Rattle.lives_model.specs.Clean.{clean}
 use Rattle.lives_model.specs.Issued.{IsIssuedRow}
 use Rattle.filter_laws.specs.declared.watcher.Watcher.{Watcher}
-use Rattle.filter_laws.specs.Kept.{kept, buried, is_dead_to_all, IsRowOrBurial}
+use Rattle.filter_laws.specs.Kept.{kept_rows, buried, is_dead_to_all, IsRowOrBurial}
 use Rattle.filter_laws.specs.KeptRowLaws.{all_there}
 use Rattle.filter_laws.specs.KeptLaws.{all_pass, kept_row, kept_on_grammar, kept_upto, kept_apart_from}
 use Rattle.filter_laws.specs.Replaced.{ArePlaced}
 use Rattle.filter_laws.specs.Filtered.{IsPutInPlace}
 use Rattle.filter_laws.specs.FilteredLaws.{pins_see_alike, newest_alike}
 use Rattle.core_model.specs.Sources.{Table, Sources, rows_in, all_rows, waiting, in_tables, in_levels, AreAscending}
-use Rattle.core_model.specs.Core.{PinAt, watcher_of, current, Choice, IsCompactionChoice, Compaction, CoreState, newest, inputs_of, levels_with, with_flushed}
+use Rattle.core_model.specs.Core.{PinAt, watcher_of, current, Choice, IsCompactionChoice, Compaction, CoreState, newest_rows, inputs_of, levels_with, with_flushed}
 use Rattle.core_model.specs.Stands.{AreKept, IsSince, Stands}
 use Rattle.core_model.specs.Events.{InstallsCompact, mark}
 use Rattle.core_model.specs.Filtered.{inputs_in_order, deeper_rows, filtering_of, IsFiltered, StandsFiltered}
@@ -88,7 +88,7 @@ module _ (opening : Opening) (core : CoreState) (seen : List Place) (stands : St
   I = inputs_in_order job
 
   abbrev K : List Row
-  K = kept job.watch (inputs_in_order job) (deeper_rows job) job.all
+  K = kept_rows job.watch (inputs_in_order job) (deeper_rows job) job.all
 
   outs : all_rows O ≡ K
   outs = rows ∙ filtered.rows
@@ -202,7 +202,7 @@ module _ (opening : Opening) (core : CoreState) (seen : List Place) (stands : St
   -- ---- what counts
 
   -- of the newest rows the same counts at each moment from that of the beginning on
-  pub newest_filtered : (t : ℕ) → (current job.watch).moment ≤ t → clean (newest core) t ≡ clean (at (rows_in swapped) core.last) t
+  pub newest_filtered : (t : ℕ) → (current job.watch).moment ≤ t → clean (newest_rows core) t ≡ clean (at (rows_in swapped) core.last) t
   newest_filtered t late = sym (newest_alike (rows_in s) (rows_in swapped) staying (deeper_rows job) core.last (map watcher_of core.pins) (filtering_of job) put filtered.dead t late)
 
   -- and so it is with the rows of each pin at its moment
@@ -253,9 +253,9 @@ install_filtered_stands opening core new seen caller note outputs whole installs
 
 -- so it keeps what counts: of the newest rows at the floor, and of the rows of each pin at its moment
 pub install_keeps_what_counts : (opening : Opening) (core new : CoreState) (seen : List Place) (caller : ℕ) (outputs : List Table) → StandsFiltered opening core seen → InstallsCompact core new caller outputs
-    → (clean (newest core) core.floor ≡ clean (newest new) new.floor) × ((p : PinAt) → Contains core.pins p → clean (at (rows_in core.sources) p.seq) p.moment ≡ clean (at (rows_in new.sources) p.seq) p.moment)
+    → (clean (newest_rows core) core.floor ≡ clean (newest_rows new) new.floor) × ((p : PinAt) → Contains core.pins p → clean (at (rows_in core.sources) p.seq) p.moment ≡ clean (at (rows_in new.sources) p.seq) p.moment)
 install_keeps_what_counts opening core new seen caller outputs whole installs =
-    subst (λ (c : CoreState). (clean (newest core) core.floor ≡ clean (newest c) c.floor) × ((p : PinAt) → Contains core.pins p → clean (at (rows_in core.sources) p.seq) p.moment ≡ clean (at (rows_in c.sources) p.seq) p.moment)) (sym installs.core)
+    subst (λ (c : CoreState). (clean (newest_rows core) core.floor ≡ clean (newest_rows c) c.floor) × ((p : PinAt) → Contains core.pins p → clean (at (rows_in core.sources) p.seq) p.moment ≡ clean (at (rows_in c.sources) p.seq) p.moment)) (sym installs.core)
     (let keeps = filtered_keeps opening core seen whole.stands installs.job since filtered outputs installs.rows installs.ascending in (keeps.newest_too, keeps.pinned_too))
   where
     since : IsSince core installs.job

@@ -22,9 +22,9 @@ use Rattle.redis_model.specs.declared.history.JobAsked.TheVariants as want
 use Rattle.redis_model.specs.declared.history.Note.{Note}
 use Rattle.redis_model.specs.declared.history.Note.TheVariants.{Bare, Began, Found, Counted}
 use Rattle.redis_model.specs.Places.{state_at, Opening}
-use Rattle.core_model.specs.Core.{PinAt, Flush, flushed_above, flushed_front, Compaction, CoreState, pin_at, newest, event_moment, raised, compact_task}
+use Rattle.core_model.specs.Core.{PinAt, Flush, flushed_above, flushed_front, Compaction, CoreState, pin_at, newest_rows, event_moment, raised, compact_task}
 use Rattle.core_model.specs.Stands.{IsSince, Stands}
-use Rattle.filter_laws.specs.Kept.{kept}
+use Rattle.filter_laws.specs.Kept.{kept_rows}
 use Rattle.core_model.specs.Events.{Glances, Reads, Work, Commits, Reruns, PlaysCommands, Pins, Unpins, LooksPinned, RefusesPinned, Freezes, InstallsFlush, DropsFlush, BeginsCompact, DropsCompact, FailsCall, Appends, with_pin, without_pin, put_in_front, with_attempt, with_flush, tick, bare_place, batch_place, mark}
 use Rattle.core_model.specs.PlacesLaws.{with_place}
 use Rattle.lives_model.specs.IssuedRowLaws.{shown_is_issued}
@@ -69,11 +69,11 @@ unflushed (top ∷ above) front others deeper = refl
 
 -- the plan that a planner made on the newest rows
 pub plan_made : (opening : Opening) (core : CoreState) (seen : List Place) (now : ℕ) (ds : Cmds) (batch : Batch) (answer : Reply) (until : Option ℕ) → Stands opening core seen → AreAsked ds
-    → IsPlanned (newest core) (event_moment core now) core.last ds batch answer until → IsPlanFor (newest core) (event_moment core now) core.last (alive (state_at opening.state seen).keys (event_moment core now)) ds batch answer until
+    → IsPlanned (newest_rows core) (event_moment core now) core.last ds batch answer until → IsPlanFor (newest_rows core) (event_moment core now) core.last (alive (state_at opening.state seen).keys (event_moment core now)) ds batch answer until
 plan_made opening core seen now ds batch answer until stands asked planned =
     planned.plan (alive (state_at opening.state seen).keys (event_moment core now))
-    (later_keys (newest core) core.floor (event_moment core now) (state_at opening.state seen).keys (omega arith) stands.keys.means)
-    (issued_is_ready (newest core) (event_moment core now) core.last ds stands.counts.limit asked (shown_is_issued (rows_in core.sources) core.last stands.rows.issued))
+    (later_keys (newest_rows core) core.floor (event_moment core now) (state_at opening.state seen).keys (omega arith) stands.keys.means)
+    (issued_is_ready (newest_rows core) (event_moment core now) core.last ds stands.counts.limit asked (shown_is_issued (rows_in core.sources) core.last stands.rows.issued))
 
 -- ---- each event
 
@@ -127,7 +127,7 @@ module _ (opening : Opening) (core new : CoreState) (seen : List Place) (whole :
   rerun_whole caller now ds view batch answer note r =
       let was = was_seen opening core seen now caller view whole.stands r.ticked in
       let same = same_core core now was.early in
-      let plan : IsPlanned (newest core) (event_moment core now) core.last ds batch answer r.until = subst (λ (t : ℕ). IsPlanned (newest core) t core.last ds batch answer r.until) (sym (ap (λ (c : CoreState). c.floor) same)) r.plan in
+      let plan : IsPlanned (newest_rows core) (event_moment core now) core.last ds batch answer r.until = subst (λ (t : ℕ). IsPlanned (newest_rows core) t core.last ds batch answer r.until) (sym (ap (λ (c : CoreState). c.floor) same)) r.plan in
       record {
         stands = (rerun_stands opening core new seen caller now ds view batch answer note whole.stands r).0;
         filtered = append_filtered now caller ds batch answer note (planned_carried opening core seen now ds batch answer r.until whole.stands r.own.asked r.own.rows plan)
@@ -215,9 +215,9 @@ module _ (opening : Opening) (core new : CoreState) (seen : List Place) (whole :
   }
 
   -- a compaction that begins
-  pub begin_whole : (caller : ℕ) (named : Option ℕ) (job : Compaction) → BeginsCompact kept core new caller job → StandsFiltered opening new (with_place seen (mark caller kind.Compact Begun (Began (want.Compact named) (compact_task job))))
+  pub begin_whole : (caller : ℕ) (named : Option ℕ) (job : Compaction) → BeginsCompact kept_rows core new caller job → StandsFiltered opening new (with_place seen (mark caller kind.Compact Begun (Began (want.Compact named) (compact_task job))))
   begin_whole caller named job b =
-      let stands = begin_compact_stands kept opening core new seen caller (want.Compact named) job whole.stands b in
+      let stands = begin_compact_stands kept_rows opening core new seen caller (want.Compact named) job whole.stands b in
       record {
         stands = stands;
         filtered = subst (λ (c : CoreState). IfSome c.compact (IsFiltered c)) (sym b.core)

@@ -15,13 +15,13 @@ use Rattle.redis_model.specs.Machine.{Pin}
 use Rattle.lives_model.specs.Plans.{IsPlanFor}
 use Rattle.lives_model.specs.Lapses.{lapses}
 use Rattle.filter_laws.specs.declared.watcher.Watcher.{Watcher}
-use Rattle.filter_laws.specs.Kept.{kept}
+use Rattle.filter_laws.specs.Kept.{kept_rows}
 use Rattle.filter_laws.specs.Filtered.{begun, AreIssuedBefore, StaysDead}
 use Rattle.filter_laws.specs.FilteredLaws.{begins, dead_with_pin, dead_with_fewer_pins, dead_with_batch}
 use Rattle.filter_laws.specs.IssuedInputLaws.{issued_before}
 use Rattle.filter_laws.specs.KeptLaws.{all_pass}
 use Rattle.core_model.specs.Sources.{rows_in}
-use Rattle.core_model.specs.Core.{PinAt, watcher_of, current, Compaction, CoreState, inputs_of, newest, is_at, event_moment, raised}
+use Rattle.core_model.specs.Core.{PinAt, watcher_of, current, Compaction, CoreState, inputs_of, newest_rows, is_at, event_moment, raised}
 use Rattle.core_model.specs.Stands.{ArePinned, IsSince, Stands}
 use Rattle.core_model.specs.Events.{Work, CanCommit, Appends, BeginsCompact, core_with_batch}
 use Rattle.core_model.specs.Filtered.{inputs_in_order, filtering_of, IsFiltered}
@@ -99,7 +99,7 @@ pins_written core (x ∷ ps) (q ∷ qs) v are (zero, low, is) = subst (λ (w : W
 pins_written core (x ∷ ps) (q ∷ qs) v are (suc k, low, is) = pins_written core ps qs v are.1 (k, omega arith, is)
 
 -- it holds where a compaction begins
-pub begin_filtered : (opening : Opening) (core new : CoreState) (seen : List Place) (caller : ℕ) (job : Compaction) → Stands opening core seen → BeginsCompact kept core new caller job → IsSince core job
+pub begin_filtered : (opening : Opening) (core new : CoreState) (seen : List Place) (caller : ℕ) (job : Compaction) → Stands opening core seen → BeginsCompact kept_rows core new caller job → IsSince core job
     → IsFiltered (record core { compact = Some job; next_run = core.next_run + 1 }) job
 begin_filtered opening core new seen caller job stands b since = record {
   rows = b.rows;
@@ -130,12 +130,12 @@ pub record HasNewLives (core : CoreState) (moment : ℕ) (ds : Cmds) (b : Batch)
   pub keys : RedisMap
   pub answer : Reply
   pub until : Option ℕ
-  pub plan : IsPlanFor (newest core) moment base keys ds b answer until
+  pub plan : IsPlanFor (newest_rows core) moment base keys ds b answer until
   pub issued : AreIssuedBefore (rows_in core.sources) ds base
 
 -- as that of a plan on the newest rows
 pub planned_lives : (opening : Opening) (core : CoreState) (seen : List Place) (moment : ℕ) (keys : RedisMap) (ds : Cmds) (b : Batch) (answer : Reply) (until : Option ℕ) → Stands opening core seen
-    → IsPlanFor (newest core) moment core.last keys ds b answer until → HasNewLives core moment ds b
+    → IsPlanFor (newest_rows core) moment core.last keys ds b answer until → HasNewLives core moment ds b
 planned_lives opening core seen moment keys ds b answer until stands plan = record {
   base = core.last;
   keys = keys;

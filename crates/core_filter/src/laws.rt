@@ -5,7 +5,7 @@ ghost use Rattle.lives_model.specs.Clean.{clean};
 ghost use Rattle.redis_model.specs.declared.history.Place.{Place};
 ghost use Rattle.redis_model.specs.Places.{Opening};
 ghost use Rattle.core_model.specs.Sources.{Table, rows_in};
-ghost use Rattle.core_model.specs.Core.{PinAt, newest, CoreState};
+ghost use Rattle.core_model.specs.Core.{PinAt, newest_rows, CoreState};
 ghost use Rattle.core_model.specs.Events.{InstallsCompact};
 ghost use Rattle.core_model.specs.Filtered.{StandsFiltered};
 ghost use Rattle.core_model.specs.Runs.{Event, IsCoreRun, AreAnswered, seen_after};
@@ -24,6 +24,6 @@ pub fn every_run_is_right()
 pub fn filtered_compactions_keep_what_counts()
     ensures { (opening : Opening) (core new : CoreState) (seen : List Place) (caller : ℕ) (outputs : List Table) →
         StandsFiltered opening core seen → InstallsCompact core new caller outputs →
-        (clean (newest core) core.floor ≡ clean (newest new) new.floor)
+        (clean (newest_rows core) core.floor ≡ clean (newest_rows new) new.floor)
         × ((p : PinAt) → Contains core.pins p → clean (at (rows_in core.sources) p.seq) p.moment ≡ clean (at (rows_in new.sources) p.seq) p.moment) }
 {}

@@ -37,7 +37,7 @@ use Rattle.redis_model.specs.declared.history.JobAsked.TheVariants as want
 use Rattle.redis_model.specs.declared.history.Note.{Note}
 use Rattle.redis_model.specs.declared.history.Note.TheVariants.{Bare, Began, Found, Counted}
 use Rattle.redis_model.specs.Places.{appended_by, state_at, Opening}
-use Rattle.core_model.specs.Core.{PinAt, Attempt, Flush, CoreState, is_at, pin_at, newest, event_moment, raised, compact_task}
+use Rattle.core_model.specs.Core.{PinAt, Attempt, Flush, CoreState, is_at, pin_at, newest_rows, event_moment, raised, compact_task}
 use Rattle.core_model.specs.Stands.{Stands}
 use Rattle.core_model.specs.Events.{Work, FailsCommit, FailsRerun, Appends, IsMended, with_attempt, with_pin, without_pin, with_flush, attempt_after, put_in_front, tick, bare_place, batch_place, mark}
 use Rattle.core_model.specs.RowsLaws.{at_on_grammar}
@@ -76,35 +76,35 @@ written_at_low opening core seen stands = let low = written_low opening.state.fl
 -- Behind the batch the same counts of the map as of the newest rows, and it means keys.
 pub record LeavesAlike (core : CoreState) (c : Rows) (batch : Batch) (moment : ℕ) : Type 0 where
   pub sound : (t : ℕ) → moment ≤ t → IsSound (after c batch) t
-  pub same : (t : ℕ) → core.manifest_floor ≤ t → clean (after (newest core) batch) t ≡ clean (after c batch) t
+  pub same : (t : ℕ) → core.manifest_floor ≤ t → clean (after (newest_rows core) batch) t ≡ clean (after c batch) t
 
 -- so it is with the batch of a plan on the newest rows
 pub batch_leaves : (opening : Opening) (core : CoreState) (seen : List Place) (moment : ℕ) (ds : Cmds) (batch : Batch) (answer : Reply) (until : Option ℕ) (base : ℕ) (c : Rows) → Stands opening core seen → core.floor ≤ moment
-    → IsCarried core (state_at opening.state seen) moment ds batch answer → IsPlanFor (newest core) moment base (alive (state_at opening.state seen).keys moment) ds batch answer until
-    → ((k : Bytes) → IsTrue (among (keys_in ds) k) → IsTrue (is_key k) → IsFresh (newest core) (version base 0) k × (last_at opening seen (stripe k) ≤ base)) → KeepsCore opening core seen c → LeavesAlike core c batch moment
+    → IsCarried core (state_at opening.state seen) moment ds batch answer → IsPlanFor (newest_rows core) moment base (alive (state_at opening.state seen).keys moment) ds batch answer until
+    → ((k : Bytes) → IsTrue (among (keys_in ds) k) → IsTrue (is_key k) → IsFresh (newest_rows core) (version base 0) k × (last_at opening seen (stripe k) ≤ base)) → KeepsCore opening core seen c → LeavesAlike core c batch moment
 batch_leaves opening core seen moment ds batch answer until base c stands late carried plan free keeps = record {
   sound = λ t le. record {
     map = alive (fold (alive (state_at opening.state seen).keys moment) moment ds).1 t;
     means = means_later (after c batch) moment t (fold (alive (state_at opening.state seen).keys moment) moment ds).1 le
-        (clean_means (after (newest core) batch) (after c batch) moment (fold (alive (state_at opening.state seen).keys moment) moment ds).1 (after_on_grammar (newest core) batch on carried.texts) (after_on_grammar c batch keeps.grammar carried.texts) (alike moment above_manifest) carried.means);
+        (clean_means (after (newest_rows core) batch) (after c batch) moment (fold (alive (state_at opening.state seen).keys moment) moment ds).1 (after_on_grammar (newest_rows core) batch on carried.texts) (after_on_grammar c batch keeps.grammar carried.texts) (alike moment above_manifest) carried.means);
   };
   same = alike;
 }
   where
-    on : IsOnGrammar (newest core)
+    on : IsOnGrammar (newest_rows core)
     on = at_on_grammar (rows_in core.sources) core.last stands.rows.grammar
 
     above_manifest : core.manifest_floor ≤ moment
     above_manifest = let a = keeps.floor in omega (arith, a, late)
 
-    means : Means (newest core) moment (alive (state_at opening.state seen).keys moment)
-    means = later_keys (newest core) core.floor moment (state_at opening.state seen).keys late stands.keys.means
+    means : Means (newest_rows core) moment (alive (state_at opening.state seen).keys moment)
+    means = later_keys (newest_rows core) core.floor moment (state_at opening.state seen).keys late stands.keys.means
 
     older : (q : ℕ) (k : Bytes) → q ≤ base → IsFresh c (version q 0) k → IsFresh c (version base 0) k
     older q k le fresh side v subkey high fits = fresh side v subkey (omega arith) fits
 
-    alike : (t : ℕ) → core.manifest_floor ≤ t → clean (after (newest core) batch) t ≡ clean (after c batch) t
-    alike t le = same_after (newest core) c moment t base (alive (state_at opening.state seen).keys moment) ds batch answer until on keeps.grammar means (keeps.same moment above_manifest) (keeps.same t le)
+    alike : (t : ℕ) → core.manifest_floor ≤ t → clean (after (newest_rows core) batch) t ≡ clean (after c batch) t
+    alike t le = same_after (newest_rows core) c moment t base (alive (state_at opening.state seen).keys moment) ds batch answer until on keeps.grammar means (keeps.same moment above_manifest) (keeps.same t le)
         (λ k named key. ((free k named key).0, older (last_at opening seen (stripe k)) k (free k named key).1 (keeps.fresh k key))) plan
 
 -- ---- a batch that was tried
@@ -112,8 +112,8 @@ batch_leaves opening core seen moment ds batch answer until base c stands late c
 module _ (opening : Opening) (core new : CoreState) (seen : List Place) (stood : StandsFiltered opening core seen) (c : Rows) (keeps : KeepsCore opening core seen c) where
   -- it waits
   tried_batch : (ds : Cmds) (batch : Batch) (answer : Reply) (until : Option ℕ) (base : ℕ) → core.last < last_sequence → IsCarried core (state_at opening.state seen) core.floor ds batch answer
-      → IsPlanFor (newest core) core.floor base (alive (state_at opening.state seen).keys core.floor) ds batch answer until
-      → ((k : Bytes) → IsTrue (among (keys_in ds) k) → IsTrue (is_key k) → IsFresh (newest core) (version base 0) k × (last_at opening seen (stripe k) ≤ base))
+      → IsPlanFor (newest_rows core) core.floor base (alive (state_at opening.state seen).keys core.floor) ds batch answer until
+      → ((k : Bytes) → IsTrue (among (keys_in ds) k) → IsTrue (is_key k) → IsFresh (newest_rows core) (version base 0) k × (last_at opening seen (stripe k) ≤ base))
       → KeepsAttempt opening (with_attempt core batch) seen c (record { batch = batch; moment = core.floor })
   tried_batch ds batch answer until base room carried plan free =
       let leaves = batch_leaves opening core seen core.floor ds batch answer until base c stood.stands (omega arith) carried plan free keeps in
@@ -145,11 +145,11 @@ module _ (opening : Opening) (core new : CoreState) (seen : List Place) (stood :
   failed_rerun caller now ds view batch answer r =
       let was = was_seen opening core seen now caller view stood.stands r.ticked in
       let same = ap (λ (x : CoreState). x.floor) (same_core core now was.early) in
-      let planned : IsPlanned (newest core) (event_moment core now) core.last ds batch answer r.until = subst (λ (t : ℕ). IsPlanned (newest core) t core.last ds batch answer r.until) (sym same) r.plan in
-      let issued : IsIssued (newest core) core.last = shown_is_issued (rows_in core.sources) core.last stood.stands.rows.issued in
+      let planned : IsPlanned (newest_rows core) (event_moment core now) core.last ds batch answer r.until = subst (λ (t : ℕ). IsPlanned (newest_rows core) t core.last ds batch answer r.until) (sym same) r.plan in
+      let issued : IsIssued (newest_rows core) core.last = shown_is_issued (rows_in core.sources) core.last stood.stands.rows.issued in
       tried_batch ds batch answer r.until core.last r.room
       (subst (λ (t : ℕ). IsCarried core (state_at opening.state seen) t ds batch answer) same (planned_carried opening core seen now ds batch answer r.until stood.stands r.own.asked r.own.rows planned))
-      (subst (λ (t : ℕ). IsPlanFor (newest core) t core.last (alive (state_at opening.state seen).keys t) ds batch answer r.until) same (plan_made opening core seen now ds batch answer r.until stood.stands r.own.asked planned))
+      (subst (λ (t : ℕ). IsPlanFor (newest_rows core) t core.last (alive (state_at opening.state seen).keys t) ds batch answer r.until) same (plan_made opening core seen now ds batch answer r.until stood.stands r.own.asked planned))
       (λ k named key. (issued.versions.rows k key, last_at_low opening core seen (stripe k) stood.stands))
 
   -- ---- and waits on
@@ -160,7 +160,7 @@ module _ (opening : Opening) (core new : CoreState) (seen : List Place) (stood :
         → IfSome x.attempt (KeepsAttempt opening x (with_place seen p) c)
     still_waits x p quiet last floor up rows same = subst (λ (o : Option Attempt). IfSome o (KeepsAttempt opening x (with_place seen p) c)) (sym same) (by_attempt core.attempt waits)
       where
-        is_newest : newest x ≡ newest core
+        is_newest : newest_rows x ≡ newest_rows core
         is_newest = ap (λ (q : ℕ). at (rows_in x.sources) q) last ∙ ap (λ (rs : List Row). at rs core.last) rows
 
         by_attempt : (o : Option Attempt) → IfSome o (KeepsAttempt opening core seen c) → IfSome o (KeepsAttempt opening x (with_place seen p) c)
@@ -216,7 +216,7 @@ module _ (opening : Opening) (core new : CoreState) (seen : List Place) (stood :
     no_entry x last floor up rows (inr none) = subst (λ (o : Option Attempt). IfSome o (KeepsAttempt opening x seen c)) (sym none) tt
     no_entry x last floor up rows (inl same) = subst (λ (o : Option Attempt). IfSome o (KeepsAttempt opening x seen c)) (sym same) (by_attempt core.attempt waits)
       where
-        is_newest : newest x ≡ newest core
+        is_newest : newest_rows x ≡ newest_rows core
         is_newest = ap (λ (q : ℕ). at (rows_in x.sources) q) last ∙ ap (λ (rs : List Row). at rs core.last) rows
 
         by_attempt : (o : Option Attempt) → IfSome o (KeepsAttempt opening core seen c) → IfSome o (KeepsAttempt opening x seen c)

@@ -7,7 +7,7 @@ use Rattle.kv_base.specs.InversionLaws.{same_some, and_then_is, kept_is}
 use Rattle.kv_base.specs.Map.{Bytes, kept, get, same_map, empty}
 use Rattle.kv_base.specs.RawKeys.{RawKey, MetaKey, ElementKey, ScoreKey, is_key, is_raw_within, raw_text, read_raw}
 use Rattle.kv_base.specs.RawKeyLaws.{only_raw_is_read}
-use Rattle.kv_base.specs.MetaValues.{MetaValue, read_meta, meta_text}
+use Rattle.kv_base.specs.MetaValues.{MetaValue, read_meta, meta_text, version_of}
 use Rattle.kv_base.specs.MetaValueLaws.{meta_is_read, only_meta_is_read}
 use Rattle.batch_codec.specs.Batches.{Batch, after, joined, over}
 use Rattle.batch_codec.specs.BatchLaws.{get-after}
@@ -22,11 +22,11 @@ use Rattle.redis_model.specs.Machine.{apply_alive}
 use Rattle.redis_model.specs.TouchedLaws.{touched_is_named}
 use Rattle.key_locality.specs.Moments.{none_between_itself}
 use Rattle.lives_model.specs.Rows.{Rows, IsOnGrammar, meta_key, row_key}
-use Rattle.lives_model.specs.Clean.{is_live, live_at, version_of, is_version_of, is_current, counts, clean}
+use Rattle.lives_model.specs.Clean.{is_live, live_at, is_version_of, is_current, counts, clean}
 use Rattle.lives_model.specs.CleanLaws.{get-clean, clean_means}
 use Rattle.lives_model.specs.Means.{Means, LifeAt, meta_for, has_life}
 use Rattle.lives_model.specs.Plans.{IsPlanOf, IsPlanFor, IsStep, IsFresh, KeyPlan, LeavesEntry, HasNoRows, Deletes, WritesEntry, PlannedPart, AreParts, join_parts, deadlines, life_after, version, keys_of_each, keys_in}
-use Rattle.lives_model.specs.StepLaws.{version_fits, live_still, live_gone, placed, step_means}
+use Rattle.lives_model.specs.StepLaws.{version_fits, live_still, live_gone, get-placed, step_means}
 use Rattle.lives_model.specs.JoinedBatchLaws.{after-empty, after-joined}
 use Rattle.lives_model.specs.WrittenKeyLaws.{among-append}
 use Rattle.plan_laws.specs.AlikeRows.{life_of, RowsAlike, LivesAlike, counts_lives}

@@ -25,7 +25,7 @@ use Rattle.core_model.specs.Places.{sequences_of}
 use Rattle.redis_model.specs.declared.history.Place.{Place}
 use Rattle.redis_model.specs.declared.history.Note.TheVariants.{Appended}
 use Rattle.redis_model.specs.Places.{appended_by, put_before, sequences, state_at, Opening}
-use Rattle.core_model.specs.Core.{CoreState, newest, event_moment, raised}
+use Rattle.core_model.specs.Core.{CoreState, newest_rows, event_moment, raised}
 use Rattle.core_model.specs.Stands.{Stands}
 use Rattle.core_model.specs.Events.{entry_with, counts_on, core_with_batch, batch_place}
 use Rattle.core_model.specs.RowsLaws.{at_on_grammar}
@@ -75,20 +75,20 @@ last_at_low opening core seen b stands =
 -- ---- an opening
 
 -- an opening keeps the map of the rows that it recovered
-pub opened_keeps : (opening : Opening) (core : CoreState) → IsOpenedCore core opening → core.manifest_floor ≤ core.floor → KeepsCore opening core [] (newest core)
+pub opened_keeps : (opening : Opening) (core : CoreState) → IsOpenedCore core opening → core.manifest_floor ≤ core.floor → KeepsCore opening core [] (newest_rows core)
 opened_keeps opening core is low = record {
   floor = low;
   grammar = at_on_grammar (rows_in core.sources) core.last is.rows.grammar;
-  sound = λ t le. record { map = alive opening.state.keys t; means = means_later (newest core) core.floor t opening.state.keys (omega (arith, le, is.floor)) is.means };
+  sound = λ t le. record { map = alive opening.state.keys t; means = means_later (newest_rows core) core.floor t opening.state.keys (omega (arith, le, is.floor)) is.means };
   same = λ t le. refl;
-  fresh = λ k key. subst (λ (q : ℕ). IsFresh (newest core) (version q 0) k) (sym is.last) ((shown_is_issued (rows_in core.sources) core.last is.rows.issued).versions.rows k key);
+  fresh = λ k key. subst (λ (q : ℕ). IsFresh (newest_rows core) (version q 0) k) (sym is.last) ((shown_is_issued (rows_in core.sources) core.last is.rows.issued).versions.rows k key);
 }
 
 -- ---- where nothing is appended
 
 -- the floor of the manifest does not fall, and from it on the same counts of the newest rows
 pub still_keeps : (opening : Opening) (core new : CoreState) (seen : List Place) (p : Place) (c : Rows) → WritesNothing p → core.manifest_floor ≤ new.manifest_floor → new.manifest_floor ≤ new.floor
-    → ((t : ℕ) → new.manifest_floor ≤ t → clean (newest new) t ≡ clean (newest core) t) → KeepsCore opening core seen c → KeepsCore opening new (with_place seen p) c
+    → ((t : ℕ) → new.manifest_floor ≤ t → clean (newest_rows new) t ≡ clean (newest_rows core) t) → KeepsCore opening core seen c → KeepsCore opening new (with_place seen p) c
 still_keeps opening core new seen p c quiet up low alike keeps = record {
   floor = low;
   grammar = keeps.grammar;
@@ -101,15 +101,15 @@ still_keeps opening core new seen p c quiet up low alike keeps = record {
 
 -- A plan on the newest rows, of keys whose versions are new on both, keeps what the map is after its batch.
 pub append_keeps : (opening : Opening) (core : CoreState) (seen : List Place) (now caller : ℕ) (ds : Cmds) (batch : Batch) (answer : Reply) (until : Option ℕ) (base : ℕ) (c : Rows) (stands : Stands opening core seen)
-    (carried : IsCarried core (state_at opening.state seen) (event_moment core now) ds batch answer) → IsPlanFor (newest core) (event_moment core now) base (alive (state_at opening.state seen).keys (event_moment core now)) ds batch answer until
-    → ((k : Bytes) → IsTrue (among (keys_in ds) k) → IsTrue (is_key k) → IsFresh (newest core) (version base 0) k × (last_at opening seen (stripe k) ≤ base)) → base ≤ core.last → HasNoneFrom batch (version (core.last + 1) 0) → KeepsCore opening core seen c
+    (carried : IsCarried core (state_at opening.state seen) (event_moment core now) ds batch answer) → IsPlanFor (newest_rows core) (event_moment core now) base (alive (state_at opening.state seen).keys (event_moment core now)) ds batch answer until
+    → ((k : Bytes) → IsTrue (among (keys_in ds) k) → IsTrue (is_key k) → IsFresh (newest_rows core) (version base 0) k × (last_at opening seen (stripe k) ≤ base)) → base ≤ core.last → HasNoneFrom batch (version (core.last + 1) 0) → KeepsCore opening core seen c
     → KeepsCore opening (core_with_batch (raised core now) ds batch) (with_place seen (batch_place now caller ds (Appended (core.last + 1)))) (after c batch)
 append_keeps opening core seen now caller ds batch answer until base c stands carried plan free low none keeps = record {
   floor = let a = keeps.floor in omega (arith, a);
   grammar = after_on_grammar c batch keeps.grammar carried.texts;
   sound = λ t le. record {
     map = alive (fold keys moment ds).1 t;
-    means = means_later (after c batch) moment t (fold keys moment ds).1 (omega (arith, le, written_is)) (clean_means (after (newest core) batch) (after c batch) moment (fold keys moment ds).1 (after_on_grammar (newest core) batch on carried.texts) (after_on_grammar c batch keeps.grammar carried.texts) (alike moment above_manifest) carried.means);
+    means = means_later (after c batch) moment t (fold keys moment ds).1 (omega (arith, le, written_is)) (clean_means (after (newest_rows core) batch) (after c batch) moment (fold keys moment ds).1 (after_on_grammar (newest_rows core) batch on carried.texts) (after_on_grammar c batch keeps.grammar carried.texts) (alike moment above_manifest) carried.means);
   };
   same = λ t le. ap (λ (d : Rows). clean d t) (newest_new opening core seen now caller ds batch answer stands carried) ∙ alike t le;
   fresh = λ k key side v subkey high fits.
@@ -125,20 +125,20 @@ append_keeps opening core seen now caller ds batch answer until base c stands ca
     keys : RedisMap
     keys = alive (state_at opening.state seen).keys (event_moment core now)
 
-    on : IsOnGrammar (newest core)
+    on : IsOnGrammar (newest_rows core)
     on = at_on_grammar (rows_in core.sources) core.last stands.rows.grammar
 
     above_manifest : core.manifest_floor ≤ event_moment core now
     above_manifest = let a = keeps.floor in omega (arith, a)
 
-    means : Means (newest core) (event_moment core now) (alive (state_at opening.state seen).keys (event_moment core now))
-    means = later_keys (newest core) core.floor (event_moment core now) (state_at opening.state seen).keys (omega arith) stands.keys.means
+    means : Means (newest_rows core) (event_moment core now) (alive (state_at opening.state seen).keys (event_moment core now))
+    means = later_keys (newest_rows core) core.floor (event_moment core now) (state_at opening.state seen).keys (omega arith) stands.keys.means
 
     older : (q : ℕ) (k : Bytes) → IsTrue (is_key k) → q ≤ base → IsFresh c (version q 0) k → IsFresh c (version base 0) k
     older q k key le fresh side v subkey high fits = fresh side v subkey (omega arith) fits
 
-    alike : (t : ℕ) → core.manifest_floor ≤ t → clean (after (newest core) batch) t ≡ clean (after c batch) t
-    alike t le = same_after (newest core) c (event_moment core now) t base (alive (state_at opening.state seen).keys (event_moment core now)) ds batch answer until on keeps.grammar means (keeps.same (event_moment core now) above_manifest) (keeps.same t le)
+    alike : (t : ℕ) → core.manifest_floor ≤ t → clean (after (newest_rows core) batch) t ≡ clean (after c batch) t
+    alike t le = same_after (newest_rows core) c (event_moment core now) t base (alive (state_at opening.state seen).keys (event_moment core now)) ds batch answer until on keeps.grammar means (keeps.same (event_moment core now) above_manifest) (keeps.same t le)
         (λ k named key. ((free k named key).0, older (last_at opening seen (stripe k)) k key (free k named key).1 (keeps.fresh k key))) plan
 
     written_is : written_at opening (with_place seen (batch_place now caller ds (Appended (core.last + 1)))) ≡ event_moment core now

@@ -31,7 +31,7 @@ use Rattle.redis_model.specs.declared.history.JobAsked.TheVariants as want
 use Rattle.redis_model.specs.declared.history.Note.{Note}
 use Rattle.redis_model.specs.declared.history.Note.TheVariants.{Bare, Began, Found, Counted, Appended}
 use Rattle.redis_model.specs.Places.{state_at, Opening}
-use Rattle.core_model.specs.Core.{PinAt, Attempt, TriedEdit, Flush, current, CoreState, is_at, pin_at, newest, event_moment, raised, levels_with, with_flushed, compact_task}
+use Rattle.core_model.specs.Core.{PinAt, Attempt, TriedEdit, Flush, current, CoreState, is_at, pin_at, newest_rows, event_moment, raised, levels_with, with_flushed, compact_task}
 use Rattle.core_model.specs.Stands.{IsSince}
 use Rattle.core_model.specs.Events.{Work, Commits, Reruns, PlaysCommands, InstallsCompact, InstallsFlush, Appends, with_pin, without_pin, with_flush, put_in_front, tick, bare_place, batch_place, mark}
 use Rattle.lives_model.specs.IssuedRowLaws.{shown_is_issued, plan_has_none_from}
@@ -72,8 +72,8 @@ module _ (opening : Opening) (core new : CoreState) (seen : List Place) (stood :
 
   -- a batch, or none
   appended_keeps : (now caller : ℕ) (ds : Cmds) (batch : Batch) (answer : Reply) (note : Note) (until : Option ℕ) (base : ℕ) → IsCarried core (state_at opening.state seen) (event_moment core now) ds batch answer
-      → IsPlanFor (newest core) (event_moment core now) base (alive (state_at opening.state seen).keys (event_moment core now)) ds batch answer until
-      → ((k : Bytes) → IsTrue (among (keys_in ds) k) → IsTrue (is_key k) → IsFresh (newest core) (version base 0) k × (last_at opening seen (stripe k) ≤ base)) → base ≤ core.last → HasNoneFrom batch (version (core.last + 1) 0)
+      → IsPlanFor (newest_rows core) (event_moment core now) base (alive (state_at opening.state seen).keys (event_moment core now)) ds batch answer until
+      → ((k : Bytes) → IsTrue (among (keys_in ds) k) → IsTrue (is_key k) → IsFresh (newest_rows core) (version base 0) k × (last_at opening seen (stripe k) ≤ base)) → base ≤ core.last → HasNoneFrom batch (version (core.last + 1) 0)
       → Appends (raised core now) new ds batch note → KeepsCore opening new (with_place seen (batch_place now caller ds note)) (after c batch)
   appended_keeps now caller ds batch answer note until base carried plan free low none (inl q) =
       subst (λ (n : Note). KeepsCore opening new (with_place seen (batch_place now caller ds n)) (after c batch)) (sym q.bare)
@@ -87,13 +87,13 @@ module _ (opening : Opening) (core new : CoreState) (seen : List Place) (stood :
 
   -- commands that are planned on the newest rows
   planned_keeps : (now caller : ℕ) (ds : Cmds) (batch : Batch) (answer : Reply) (note : Note) (until : Option ℕ) → IsCarried core (state_at opening.state seen) (event_moment core now) ds batch answer → AreAsked ds
-      → IsPlanned (newest core) (event_moment core now) core.last ds batch answer until → Appends (raised core now) new ds batch note → KeepsCore opening new (with_place seen (batch_place now caller ds note)) (after c batch)
+      → IsPlanned (newest_rows core) (event_moment core now) core.last ds batch answer until → Appends (raised core now) new ds batch note → KeepsCore opening new (with_place seen (batch_place now caller ds note)) (after c batch)
   planned_keeps now caller ds batch answer note until carried asked planned appends =
       let plan = plan_made opening core seen now ds batch answer until stood.stands asked planned in
-      let issued : IsIssued (newest core) core.last = shown_is_issued (rows_in core.sources) core.last stood.stands.rows.issued in
+      let issued : IsIssued (newest_rows core) core.last = shown_is_issued (rows_in core.sources) core.last stood.stands.rows.issued in
       appended_keeps now caller ds batch answer note until core.last carried plan
       (λ k named key. (issued.versions.rows k key, last_at_low opening core seen (stripe k) stood.stands)) (omega arith)
-      (plan_has_none_from (newest core) (event_moment core now) core.last (alive (state_at opening.state seen).keys (event_moment core now)) ds batch answer until asked issued.versions plan) appends
+      (plan_has_none_from (newest_rows core) (event_moment core now) core.last (alive (state_at opening.state seen).keys (event_moment core now)) ds batch answer until asked issued.versions plan) appends
 
   play_keeps : (caller now : ℕ) (ds : Cmds) (batch : Batch) (answer : Reply) (note : Note) → PlaysCommands core new caller now ds batch answer note → KeepsCore opening new (with_place seen (batch_place now caller ds note)) (after c batch)
   play_keeps caller now ds batch answer note p =
@@ -103,7 +103,7 @@ module _ (opening : Opening) (core new : CoreState) (seen : List Place) (stood :
   rerun_keeps caller now ds view batch answer note r =
       let was = was_seen opening core seen now caller view stood.stands r.ticked in
       let same = same_core core now was.early in
-      let plan : IsPlanned (newest core) (event_moment core now) core.last ds batch answer r.until = subst (λ (t : ℕ). IsPlanned (newest core) t core.last ds batch answer r.until) (sym (ap (λ (x : CoreState). x.floor) same)) r.plan in
+      let plan : IsPlanned (newest_rows core) (event_moment core now) core.last ds batch answer r.until = subst (λ (t : ℕ). IsPlanned (newest_rows core) t core.last ds batch answer r.until) (sym (ap (λ (x : CoreState). x.floor) same)) r.plan in
       planned_keeps now caller ds batch answer note r.until (planned_carried opening core seen now ds batch answer r.until stood.stands r.own.asked r.own.rows plan) r.own.asked plan
       (subst (λ (x : CoreState). Appends x new ds batch note) (sym same) r.appends)
 
@@ -115,7 +115,7 @@ module _ (opening : Opening) (core new : CoreState) (seen : List Place) (stood :
       let up_to = was.holds.written in
       appended_keeps w.now w.caller w.ds w.batch w.answer note w.until w.view.seq
       (subst (λ (t : ℕ). IsCarried core (state_at opening.state seen) t w.ds w.batch w.answer) at_it (commit_carried opening core seen w stood.stands m.can was m.current))
-      (subst (λ (t : ℕ). IsPlanFor (newest core) t w.view.seq (alive (state_at opening.state seen).keys t) w.ds w.batch w.answer w.until) at_it (new_plan opening core seen w stood.stands m.can was m.current))
+      (subst (λ (t : ℕ). IsPlanFor (newest_rows core) t w.view.seq (alive (state_at opening.state seen).keys t) w.ds w.batch w.answer w.until) at_it (new_plan opening core seen w stood.stands m.can was m.current))
       (λ k named key. ((still_ready opening core seen w stood.stands m.can was).above k named, last_upto opening.last w.view.seq (sequences_of (stripe k) seen) since (all_old k named)))
       (omega (arith, up_to))
       (none_from w.batch (version (w.view.seq + 1) 0) (version (core.last + 1) 0) (omega (arith, up_to))

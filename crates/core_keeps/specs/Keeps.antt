@@ -18,7 +18,7 @@ use Rattle.core_model.specs.Sources.{Sources, rows_in, HasRowAt}
 use Rattle.core_model.specs.Places.{sequences_of}
 use Rattle.redis_model.specs.declared.history.Place.{Place}
 use Rattle.redis_model.specs.Places.{appended_by, Opening}
-use Rattle.core_model.specs.Core.{Attempt, TriedEdit, CoreState, newest}
+use Rattle.core_model.specs.Core.{Attempt, TriedEdit, CoreState, newest_rows}
 use Rattle.lives_model.specs.Issued.{AreIssued}
 
 -- the moment of the last batch of a history, and this one where there is none
@@ -45,7 +45,7 @@ pub record KeepsCore (opening : Opening) (core : CoreState) (seen : List Place) 
   pub floor : core.manifest_floor ≤ core.floor
   pub grammar : IsOnGrammar c
   pub sound : (t : ℕ) → written_at opening seen ≤ t → IsSound c t
-  pub same : (t : ℕ) → core.manifest_floor ≤ t → clean (newest core) t ≡ clean c t
+  pub same : (t : ℕ) → core.manifest_floor ≤ t → clean (newest_rows core) t ≡ clean c t
   pub fresh : (k : Bytes) → IsTrue (is_key k) → IsFresh c (version (last_at opening seen (stripe k)) 0) k
 
 -- ---- what waits to be mended
@@ -58,7 +58,7 @@ pub record KeepsAttempt (opening : Opening) (core : CoreState) (seen : List Plac
   pub past : a.moment ≤ core.floor
   pub issued : AreIssued (batch_rows (core.last + 1) a.batch)
   pub sound : (t : ℕ) → a.moment ≤ t → IsSound (after c a.batch) t
-  pub same : (t : ℕ) → core.manifest_floor ≤ t → a.moment ≤ t → clean (after (newest core) a.batch) t ≡ clean (after c a.batch) t
+  pub same : (t : ℕ) → core.manifest_floor ≤ t → a.moment ≤ t → clean (after (newest_rows core) a.batch) t ≡ clean (after c a.batch) t
 
 -- the sources with an edit carried out
 abbrev pub with_edit : Sources → TriedEdit → Sources

@@ -6,12 +6,12 @@ use Rattle.row_model.specs.Rows.{at}
 use Rattle.redis_model.specs.declared.history.Place.{Place}
 use Rattle.redis_model.specs.Places.{Opening}
 use Rattle.lives_model.specs.Rows.{Rows}
-use Rattle.core_model.specs.Core.{Attempt, TriedEdit, CoreState, newest}
+use Rattle.core_model.specs.Core.{Attempt, TriedEdit, CoreState, newest_rows}
 use Rattle.core_keeps.specs.Keeps.{written_at, edited}
 
 -- the rows of the tables and the log, with the edit or without it
 abbrev pub rows_with : CoreState → Option TriedEdit → Rows
-rows_with core None = newest core
+rows_with core None = newest_rows core
 rows_with core (Some e) = at (edited core e) core.last
 
 -- rows behind the batch, or as they are

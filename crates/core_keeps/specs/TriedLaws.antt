@@ -28,7 +28,7 @@ use Rattle.redis_model.specs.declared.history.Place.{Place}
 use Rattle.redis_model.specs.declared.history.ReadView.{ReadView}
 use Rattle.redis_model.specs.declared.history.Note.{Note}
 use Rattle.redis_model.specs.Places.{state_at, Opening}
-use Rattle.core_model.specs.Core.{PinAt, Attempt, TriedEdit, CoreState, Compaction, is_at, pin_at, newest, event_moment, raised, levels_with, with_flushed}
+use Rattle.core_model.specs.Core.{PinAt, Attempt, TriedEdit, CoreState, Compaction, is_at, pin_at, newest_rows, event_moment, raised, levels_with, with_flushed}
 use Rattle.core_model.specs.Stands.{AreKept, IsSince}
 use Rattle.core_model.specs.Events.{Work, CanCommit, Commits, Reruns, FailsCommit, FailsRerun, DropsCompact, IsTriedBy, Appends, IsMended, core_with_batch, with_attempt, with_pin, without_pin, with_flush, attempt_after, frozen_of}
 use Rattle.core_model.specs.RowsLaws.{at_on_grammar, upto_each, at_with_batch}
@@ -59,14 +59,14 @@ module _ (opening : Opening) (core new : CoreState) (seen : List Place) (stood :
   NoneNewer ds base = (k : Bytes) → IsTrue (among (keys_in ds) k) → (row : Row) (side : Side) (v : ℕ) (subkey : Bytes) → Contains (rows_in core.sources) row → row.seq ≤ core.last → IsTrue (is_version v) → row.raw ≡ row_key side k v subkey → row.seq ≤ base
 
   module _ (e : TriedEdit) (tried : KeepsTried core c e) where
-    on : IsOnGrammar (newest core)
+    on : IsOnGrammar (newest_rows core)
     on = at_on_grammar (rows_in core.sources) core.last stood.stands.rows.grammar
 
     on_too : IsOnGrammar (at (edited core e) core.last)
     on_too = at_on_grammar (edited core e) core.last tried.texts
 
     -- the same counts of the rows with the edit and of those without it
-    same_here : (t : ℕ) → core.manifest_floor ≤ t → e.floor ≤ t → clean (newest core) t ≡ clean (at (edited core e) core.last) t
+    same_here : (t : ℕ) → core.manifest_floor ≤ t → e.floor ≤ t → clean (newest_rows core) t ≡ clean (at (edited core e) core.last) t
     same_here t le late = keeps.same t le ∙ sym (tried.same t le late)
 
     edited_upto : (row : Row) → Contains (edited core e) row → row.seq ≤ core.last
@@ -84,12 +84,12 @@ module _ (opening : Opening) (core new : CoreState) (seen : List Place) (stood :
         omega (arith, old, seq))
 
     -- so it does behind the batch
-    batch_too : (moment : ℕ) (ds : Cmds) (batch : Batch) (answer : Reply) (until : Option ℕ) (base : ℕ) → core.floor ≤ moment → IsPlanFor (newest core) moment base (alive (state_at opening.state seen).keys moment) ds batch answer until
-        → ((k : Bytes) → IsTrue (among (keys_in ds) k) → IsTrue (is_key k) → IsFresh (newest core) (version base 0) k) → NoneNewer ds base → LeavesAlike core c batch moment
+    batch_too : (moment : ℕ) (ds : Cmds) (batch : Batch) (answer : Reply) (until : Option ℕ) (base : ℕ) → core.floor ≤ moment → IsPlanFor (newest_rows core) moment base (alive (state_at opening.state seen).keys moment) ds batch answer until
+        → ((k : Bytes) → IsTrue (among (keys_in ds) k) → IsTrue (is_key k) → IsFresh (newest_rows core) (version base 0) k) → NoneNewer ds base → LeavesAlike core c batch moment
         → (t : ℕ) → core.manifest_floor ≤ t → e.floor ≤ t → clean (after (at (edited core e) core.last) batch) t ≡ clean (after c batch) t
     batch_too moment ds batch answer until base late plan fresh none leaves t le floor =
-        sym (same_after (newest core) (at (edited core e) core.last) moment t base (alive (state_at opening.state seen).keys moment) ds batch answer until on on_too
-        (later_keys (newest core) core.floor moment (state_at opening.state seen).keys late stood.stands.keys.means)
+        sym (same_after (newest_rows core) (at (edited core e) core.last) moment t base (alive (state_at opening.state seen).keys moment) ds batch answer until on on_too
+        (later_keys (newest_rows core) core.floor moment (state_at opening.state seen).keys late stood.stands.keys.means)
         (same_here moment (let a = keeps.floor in omega (arith, a, late)) (let a = tried.past in omega (arith, a, late))) (same_here t le floor)
         (λ k named key. (fresh k named key, fresh_too ds base none k named key)) plan)
         ∙ leaves.same t le
@@ -263,8 +263,8 @@ module _ (opening : Opening) (core new : CoreState) (seen : List Place) (stood :
 
     -- a batch is appended, or none
     appended_tries : (now caller : ℕ) (ds : Cmds) (batch : Batch) (answer : Reply) (note : Note) (until : Option ℕ) (base : ℕ) → IsCarried core (state_at opening.state seen) (event_moment core now) ds batch answer
-        → IsPlanFor (newest core) (event_moment core now) base (alive (state_at opening.state seen).keys (event_moment core now)) ds batch answer until
-        → ((k : Bytes) → IsTrue (among (keys_in ds) k) → IsTrue (is_key k) → IsFresh (newest core) (version base 0) k × (last_at opening seen (stripe k) ≤ base)) → NoneNewer ds base
+        → IsPlanFor (newest_rows core) (event_moment core now) base (alive (state_at opening.state seen).keys (event_moment core now)) ds batch answer until
+        → ((k : Bytes) → IsTrue (among (keys_in ds) k) → IsTrue (is_key k) → IsFresh (newest_rows core) (version base 0) k × (last_at opening seen (stripe k) ≤ base)) → NoneNewer ds base
         → Appends (raised core now) new ds batch note → IfSome new.tried (KeepsTried new (after c batch))
     appended_tries now caller ds batch answer note until base carried plan free none (inl q) =
         subst (λ (x : CoreState). IfSome x.tried (KeepsTried x (after c batch))) (sym q.core)
@@ -280,8 +280,8 @@ module _ (opening : Opening) (core new : CoreState) (seen : List Place) (stood :
 
     -- a batch failed at its gate
     attempt_tries : (ds : Cmds) (batch : Batch) (answer : Reply) (until : Option ℕ) (base : ℕ) → IsCarried core (state_at opening.state seen) core.floor ds batch answer
-        → IsPlanFor (newest core) core.floor base (alive (state_at opening.state seen).keys core.floor) ds batch answer until
-        → ((k : Bytes) → IsTrue (among (keys_in ds) k) → IsTrue (is_key k) → IsFresh (newest core) (version base 0) k × (last_at opening seen (stripe k) ≤ base)) → NoneNewer ds base → IfSome core.tried (KeepsTried (with_attempt core batch) c)
+        → IsPlanFor (newest_rows core) core.floor base (alive (state_at opening.state seen).keys core.floor) ds batch answer until
+        → ((k : Bytes) → IsTrue (among (keys_in ds) k) → IsTrue (is_key k) → IsFresh (newest_rows core) (version base 0) k × (last_at opening seen (stripe k) ≤ base)) → NoneNewer ds base → IfSome core.tried (KeepsTried (with_attempt core batch) c)
     attempt_tries ds batch answer until base carried plan free none = by_edit core.tried tries
       where
         by_edit : (o : Option TriedEdit) → IfSome o (KeepsTried core c) → IfSome o (KeepsTried (with_attempt core batch) c)
@@ -298,14 +298,14 @@ module _ (opening : Opening) (core new : CoreState) (seen : List Place) (stood :
         }
 
     -- plans on the newest rows
-    planned_free : (ds : Cmds) (k : Bytes) → IsTrue (among (keys_in ds) k) → IsTrue (is_key k) → IsFresh (newest core) (version core.last 0) k × (last_at opening seen (stripe k) ≤ core.last)
+    planned_free : (ds : Cmds) (k : Bytes) → IsTrue (among (keys_in ds) k) → IsTrue (is_key k) → IsFresh (newest_rows core) (version core.last 0) k × (last_at opening seen (stripe k) ≤ core.last)
     planned_free ds k named key = ((shown_is_issued (rows_in core.sources) core.last stood.stands.rows.issued).versions.rows k key, last_at_low opening core seen (stripe k) stood.stands)
 
     planned_none : (ds : Cmds) → NoneNewer ds core.last
     planned_none ds k named row side v subkey there low fits is = low
 
     -- and on what was seen
-    commit_free : (w : Work) (can : CanCommit core seen w) (was : WasSeen opening core seen w.now w.view) (k : Bytes) → IsTrue (among (keys_in w.ds) k) → IsTrue (is_key k) → IsFresh (newest core) (version w.view.seq 0) k × (last_at opening seen (stripe k) ≤ w.view.seq)
+    commit_free : (w : Work) (can : CanCommit core seen w) (was : WasSeen opening core seen w.now w.view) (k : Bytes) → IsTrue (among (keys_in w.ds) k) → IsTrue (is_key k) → IsFresh (newest_rows core) (version w.view.seq 0) k × (last_at opening seen (stripe k) ≤ w.view.seq)
     commit_free w can was k named key =
         let since = was.holds.since in
         ((still_ready opening core seen w stood.stands can was).above k named, last_upto opening.last w.view.seq (sequences_of (stripe k) seen) since all_old)
@@ -322,7 +322,7 @@ module _ (opening : Opening) (core new : CoreState) (seen : List Place) (stood :
         let at_it : core.floor ≡ event_moment core w.now = sym (ap (λ (x : CoreState). x.floor) same) in
         appended_tries w.now w.caller w.ds w.batch w.answer note w.until w.view.seq
         (subst (λ (t : ℕ). IsCarried core (state_at opening.state seen) t w.ds w.batch w.answer) at_it (commit_carried opening core seen w stood.stands m.can was m.current))
-        (subst (λ (t : ℕ). IsPlanFor (newest core) t w.view.seq (alive (state_at opening.state seen).keys t) w.ds w.batch w.answer w.until) at_it (new_plan opening core seen w stood.stands m.can was m.current))
+        (subst (λ (t : ℕ). IsPlanFor (newest_rows core) t w.view.seq (alive (state_at opening.state seen).keys t) w.ds w.batch w.answer w.until) at_it (new_plan opening core seen w stood.stands m.can was m.current))
         (commit_free w m.can was) (not_newer opening core seen w stood.stands m.can was) (subst (λ (x : CoreState). Appends x new w.ds w.batch note) (sym same) m.appends)
 
     failed_commit_tries : (w : Work) → FailsCommit core new seen w → IfSome core.tried (KeepsTried (with_attempt core w.batch) c)
@@ -335,13 +335,13 @@ module _ (opening : Opening) (core new : CoreState) (seen : List Place) (stood :
     failed_rerun_tries caller now ds view batch answer r =
         let was = was_seen opening core seen now caller view stood.stands r.ticked in
         let same = ap (λ (x : CoreState). x.floor) (same_core core now was.early) in
-        let planned : IsPlanned (newest core) (event_moment core now) core.last ds batch answer r.until = subst (λ (t : ℕ). IsPlanned (newest core) t core.last ds batch answer r.until) (sym same) r.plan in
+        let planned : IsPlanned (newest_rows core) (event_moment core now) core.last ds batch answer r.until = subst (λ (t : ℕ). IsPlanned (newest_rows core) t core.last ds batch answer r.until) (sym same) r.plan in
         attempt_tries ds batch answer r.until core.last
         (subst (λ (t : ℕ). IsCarried core (state_at opening.state seen) t ds batch answer) same (planned_carried opening core seen now ds batch answer r.until stood.stands r.own.asked r.own.rows planned))
-        (subst (λ (t : ℕ). IsPlanFor (newest core) t core.last (alive (state_at opening.state seen).keys t) ds batch answer r.until) same (plan_made opening core seen now ds batch answer r.until stood.stands r.own.asked planned))
+        (subst (λ (t : ℕ). IsPlanFor (newest_rows core) t core.last (alive (state_at opening.state seen).keys t) ds batch answer r.until) same (plan_made opening core seen now ds batch answer r.until stood.stands r.own.asked planned))
         (planned_free ds) (planned_none ds)
 
-    planned_tries : (now caller : ℕ) (ds : Cmds) (batch : Batch) (answer : Reply) (note : Note) (until : Option ℕ) → IsTrue (are_rows batch.entries) → AreAsked ds → IsPlanned (newest core) (event_moment core now) core.last ds batch answer until
+    planned_tries : (now caller : ℕ) (ds : Cmds) (batch : Batch) (answer : Reply) (note : Note) (until : Option ℕ) → IsTrue (are_rows batch.entries) → AreAsked ds → IsPlanned (newest_rows core) (event_moment core now) core.last ds batch answer until
         → Appends (raised core now) new ds batch note → IfSome new.tried (KeepsTried new (after c batch))
     planned_tries now caller ds batch answer note until texts asked planned appends =
         appended_tries now caller ds batch answer note until core.last (planned_carried opening core seen now ds batch answer until stood.stands asked texts planned) (plan_made opening core seen now ds batch answer until stood.stands asked planned)
@@ -351,7 +351,7 @@ module _ (opening : Opening) (core new : CoreState) (seen : List Place) (stood :
     rerun_tries caller now ds view batch answer note r =
         let was = was_seen opening core seen now caller view stood.stands r.ticked in
         let same = same_core core now was.early in
-        planned_tries now caller ds batch answer note r.until r.own.rows r.own.asked (subst (λ (t : ℕ). IsPlanned (newest core) t core.last ds batch answer r.until) (sym (ap (λ (x : CoreState). x.floor) same)) r.plan)
+        planned_tries now caller ds batch answer note r.until r.own.rows r.own.asked (subst (λ (t : ℕ). IsPlanned (newest_rows core) t core.last ds batch answer r.until) (sym (ap (λ (x : CoreState). x.floor) same)) r.plan)
         (subst (λ (x : CoreState). Appends x new ds batch note) (sym same) r.appends)
 
     pin_tries : (now caller : ℕ) (o : Option PinAt) → IfSome (with_pin (raised core now) caller o).tried (KeepsTried (with_pin (raised core now) caller o) c)
@@ -430,9 +430,9 @@ run_keeps_all opening core new seen (e ∷ es) c stood all (mid, first, rest) =
     run_keeps_all opening mid new (seen ++ adds e) es (kept_after e c) (event_whole opening core mid seen stood e first) (event_keeps_all opening core mid seen c e stood all first) rest
 
 -- an opening keeps the map of what it recovered
-pub opened_keeps_all : (opening : Opening) (core : CoreState) → IsOpenedCore core opening → core.manifest_floor ≤ core.floor → KeepsAll opening core [] (newest core)
+pub opened_keeps_all : (opening : Opening) (core : CoreState) → IsOpenedCore core opening → core.manifest_floor ≤ core.floor → KeepsAll opening core [] (newest_rows core)
 opened_keeps_all opening core is low = record {
   keeps = opened_keeps opening core is low;
-  attempt = subst (λ (o : Option Attempt). IfSome o (KeepsAttempt opening core [] (newest core))) (sym is.attempt) tt;
-  tried = subst (λ (o : Option TriedEdit). IfSome o (KeepsTried core (newest core))) (sym is.tried) tt;
+  attempt = subst (λ (o : Option Attempt). IfSome o (KeepsAttempt opening core [] (newest_rows core))) (sym is.attempt) tt;
+  tried = subst (λ (o : Option TriedEdit). IfSome o (KeepsTried core (newest_rows core))) (sym is.tried) tt;
 }

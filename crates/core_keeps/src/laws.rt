@@ -17,7 +17,7 @@ ghost use Rattle.redis_model.specs.declared.command.Cmds.{Cmds};
 ghost use Rattle.redis_model.specs.declared.reply.Reply.{Reply};
 ghost use Rattle.redis_model.specs.Keys.{among};
 ghost use Rattle.redis_model.specs.declared.history.Place.{Place};
-ghost use Rattle.core_model.specs.Core.{newest, CoreState};
+ghost use Rattle.core_model.specs.Core.{newest_rows, CoreState};
 ghost use Rattle.core_model.specs.Stands.{Stands};
 ghost use Rattle.redis_model.specs.Places.{Opening};
 
@@ -35,7 +35,7 @@ pub fn batches_keep_what_counts()
 /// with an edit of a compaction that failed at its gate, and the rows behind a batch that failed at its gate count as the map
 /// behind it, until these are mended.
 pub fn acknowledged_batches_are_kept()
-    ensures opened { (opening : Opening) (core : CoreState) → IsOpenedCore core opening → core.manifest_floor ≤ core.floor → KeepsAll opening core [] (newest core) }
+    ensures opened { (opening : Opening) (core : CoreState) → IsOpenedCore core opening → core.manifest_floor ≤ core.floor → KeepsAll opening core [] (newest_rows core) }
     ensures kept { (opening : Opening) (core new : CoreState) (seen : List Place) (es : List Event) (c : Rows) →
         StandsFiltered opening core seen → KeepsAll opening core seen c → IsCoreRun seen core es new → KeepsAll opening new (seen_after seen es) (kept_by es c) }
 {}

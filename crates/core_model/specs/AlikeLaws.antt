@@ -8,12 +8,12 @@ use Rattle.kv_base.specs.Fields.{u64, text, read_text}
 use Rattle.kv_base.specs.FieldLaws.{text_is_read}
 use Rattle.kv_base.specs.RawKeys.{RawKey, MetaKey, ElementKey, ScoreKey, is_key, raw_text, read_raw}
 use Rattle.kv_base.specs.RawKeyLaws.{only_raw_is_read}
-use Rattle.kv_base.specs.MetaValues.{read_meta}
+use Rattle.kv_base.specs.MetaValues.{read_meta, version_of}
 use Rattle.batch_codec.specs.Batches.{Batch, after}
 use Rattle.lives_model.specs.Rows.{Rows, IsOnGrammar, Side, meta_key, row_key}
 use Rattle.lives_model.specs.RowKeys.{IsOfKey, key_of}
 use Rattle.lives_model.specs.RowKeyLaws.{raw_is_of_key, only_meta_key_is_read, row_key_is_no_meta_key}
-use Rattle.lives_model.specs.Clean.{is_live, live_at, version_of, is_version_of, counts, clean}
+use Rattle.lives_model.specs.Clean.{is_live, live_at, is_version_of, counts, clean}
 use Rattle.lives_model.specs.CleanLaws.{get-clean, kept_alike, clean_later}
 use Rattle.lives_model.specs.StepLaws.{still}
 use Rattle.lives_model.specs.Lapses.{CountsAlike}

@@ -137,8 +137,8 @@ pub record CoreState : Type 0 where
   pub next_run : ℕ
 
 -- the map of raw keys to values at the last sequence
-abbrev pub newest : CoreState → Rows
-newest core = at (rows_in core.sources) core.last
+abbrev pub newest_rows : CoreState → Rows
+newest_rows core = at (rows_in core.sources) core.last
 
 -- the pin of a caller
 abbrev pub is_at : ℕ → PinAt → Bool

@@ -32,7 +32,7 @@ use Rattle.redis_model.specs.declared.history.Task.{Task}
 use Rattle.redis_model.specs.declared.history.Note.{Note}
 use Rattle.redis_model.specs.declared.history.Note.TheVariants.{Bare, Saw, Appended}
 use Rattle.core_model.specs.Places.{HasMark}
-use Rattle.core_model.specs.Core.{IsCompactionChoice, current, PinAt, watcher_of, Flush, Compaction, Attempt, TriedEdit, CoreState, newest, pin_at, is_at, event_moment, raised, levels_of, levels_with, with_flushed, inputs_of}
+use Rattle.core_model.specs.Core.{IsCompactionChoice, current, PinAt, watcher_of, Flush, Compaction, Attempt, TriedEdit, CoreState, newest_rows, pin_at, is_at, event_moment, raised, levels_of, levels_with, with_flushed, inputs_of}
 use Rattle.filter_laws.specs.declared.watcher.Watcher.{Watcher}
 
 -- ---- a glance, and a reading command
@@ -42,7 +42,7 @@ pub record Glances (old new : CoreState) (now : ℕ) (view : ReadView) : Type 0 
   pub core : new ≡ raised old now
   pub seq : view.seq ≡ old.last
   pub moment : view.moment ≡ new.floor
-  pub rows : view.rows.map ≡ newest old
+  pub rows : view.rows.map ≡ newest_rows old
   pub marks : (b mark : ℕ) → HasMark view b mark → (b < 16) × (mark ≡ old.books b)
 
 -- the place of a glance
@@ -57,7 +57,7 @@ pub record Reads (old new : CoreState) (now caller : ℕ) (c : Command) (reply :
   pub reads : IsFalse (writes c)
   pub batch : Batch
   pub until : Option ℕ
-  pub plan : IsPlanned (newest new) new.floor new.last (One c) batch reply until
+  pub plan : IsPlanned (newest_rows new) new.floor new.last (One c) batch reply until
 
 -- a place of which nothing else is known
 abbrev pub bare_place : Step → Place
@@ -144,14 +144,14 @@ pub record Reruns (old new : CoreState) (seen : List Place) (caller now : ℕ) (
   pub own : CanAppend old caller ds batch
   pub ticked : Contains seen (tick now caller view)
   pub until : Option ℕ
-  pub plan : IsPlanned (newest old) old.floor old.last ds batch answer until
+  pub plan : IsPlanned (newest_rows old) old.floor old.last ds batch answer until
   pub appends : Appends old new ds batch note
 
 -- In one event the floor rises, commands are planned on the newest rows, and the batch is appended.
 pub record PlaysCommands (old new : CoreState) (caller now : ℕ) (ds : Cmds) (batch : Batch) (answer : Reply) (note : Note) : Type 0 where
   pub own : CanAppend old caller ds batch
   pub until : Option ℕ
-  pub plan : IsPlanned (newest old) (event_moment old now) old.last ds batch answer until
+  pub plan : IsPlanned (newest_rows old) (event_moment old now) old.last ds batch answer until
   pub appends : Appends (raised old now) new ds batch note
 
 -- the place of commands that wrote, or had nothing to write
@@ -394,6 +394,6 @@ pub record FailsRerun (old new : CoreState) (seen : List Place) (caller now : �
   pub own : CanAppend old caller ds batch
   pub ticked : Contains seen (tick now caller view)
   pub until : Option ℕ
-  pub plan : IsPlanned (newest old) old.floor old.last ds batch answer until
+  pub plan : IsPlanned (newest_rows old) old.floor old.last ds batch answer until
   pub room : old.last < last_sequence
   pub core : new ≡ with_attempt old batch

@@ -3,7 +3,7 @@ use Rattle.std.specs.Prelude.{◌≡◌, ◌≤◌, List, map, IfSome}
 use Rattle.kv_base.specs.declared.row.Row.{Row}
 use Rattle.redis_model.specs.declared.history.Place.{Place}
 use Rattle.redis_model.specs.Places.{Opening}
-use Rattle.filter_laws.specs.Kept.{kept}
+use Rattle.filter_laws.specs.Kept.{kept_rows}
 use Rattle.filter_laws.specs.Filtered.{Filtering, StaysDead}
 use Rattle.core_model.specs.Sources.{rows_in, together, all_rows, in_levels}
 use Rattle.core_model.specs.Core.{Compaction, CoreState, inputs_of, current, watcher_of}
@@ -24,7 +24,7 @@ filtering_of job = record { watch = job.watch; now = current job.watch; inputs =
 -- It is to leave what the four rules say, and the lives whose rows they take away stay dead, for each pin and in the newest
 -- rows.
 pub record IsFiltered (core : CoreState) (job : Compaction) : Type 0 where
-  pub rows : job.rows ≡ kept job.watch (inputs_in_order job) (deeper_rows job) job.all
+  pub rows : job.rows ≡ kept_rows job.watch (inputs_in_order job) (deeper_rows job) job.all
   pub past : (current job.watch).moment ≤ core.floor
   pub dead : StaysDead (rows_in core.sources) core.last (map watcher_of core.pins) (filtering_of job)
 

@@ -4,7 +4,7 @@ use Rattle.redis_model.specs.Desk.{last_sequence}
 use Rattle.redis_model.specs.Machine.{start}
 use Rattle.redis_model.specs.Places.{Opening}
 use Rattle.lives_model.specs.Means.{Means}
-use Rattle.core_model.specs.Core.{CoreState, newest}
+use Rattle.core_model.specs.Core.{CoreState, newest_rows}
 use Rattle.core_model.specs.Stands.{AreKept}
 
 -- What was recovered: rows in their sources, which mean these keys at the floor. Nothing is open, counted, pinned or to be mended.
@@ -12,7 +12,7 @@ pub record IsOpenedCore (core : CoreState) (opening : Opening) : Type 0 where
   pub rows : AreKept core.sources core.last
   pub limit : core.last ≤ last_sequence
   pub early : core.floor ≤ 2 ^ 61
-  pub means : Means (newest core) core.floor opening.state.keys
+  pub means : Means (newest_rows core) core.floor opening.state.keys
   pub floor : opening.state.floor ≡ core.floor
   pub free : opening.state.pins ≡ []
   pub last : opening.last ≡ core.last

@@ -12,7 +12,7 @@ use Rattle.lives_model.specs.GrammarLaws.{empty_means}
 use Rattle.lives_model.specs.Means.{Means}
 use Rattle.lives_model.specs.StepLaws.{alive_means}
 use Rattle.core_model.specs.Sources.{rows_in}
-use Rattle.core_model.specs.Core.{CoreState, newest}
+use Rattle.core_model.specs.Core.{CoreState, newest_rows}
 use Rattle.core_model.specs.Stands.{ArePinned, IsOpenFlush, IsOpenCompaction, IsSince}
 use Rattle.redis_model.specs.Places.{Opening}
 use Rattle.core_model.specs.RowsLaws.{upto_each}
@@ -28,7 +28,7 @@ opened_core_stands opening core is = record {
     keys = record {
       floor = sym is.floor;
       early = is.early;
-      means = subst (Means (newest core) core.floor) (sym (alive_means (newest core) core.floor opening.state.keys is.means)) is.means;
+      means = subst (Means (newest_rows core) core.floor) (sym (alive_means (newest_rows core) core.floor opening.state.keys is.means)) is.means;
     };
     pins = subst (λ ps. ArePinned core ps opening.state.pins) (sym is.pins) (subst (ArePinned core []) (sym is.free) tt);
     rows = is.rows;

@@ -17,7 +17,7 @@ use Rattle.redis_model.specs.declared.history.Note.{Note}
 use Rattle.redis_model.specs.declared.history.Note.TheVariants.{Bare, Began, Found, Counted}
 use Rattle.redis_model.specs.Places.{state_at}
 use Rattle.core_model.specs.Core.{Compaction, CoreState, compact_task}
-use Rattle.filter_laws.specs.Kept.{kept}
+use Rattle.filter_laws.specs.Kept.{kept_rows}
 use Rattle.core_model.specs.Events.{Glances, Reads, Work, Commits, Lapses, Reruns, PlaysCommands, Pins, Unpins, LooksPinned, RefusesPinned, Freezes, InstallsFlush, DropsFlush, FindsNoFlush, MeetsFlush, BeginsCompact, InstallsCompact, DropsCompact, FindsNoCompact, MeetsCompact, FailsCall, FailsCommit, FailsRerun, tick, bare_place, batch_place, mark}
 
 -- A call of a core, with what it was given and what it answered.
@@ -64,7 +64,7 @@ Happens seen old (NoFlush caller forced) new = FindsNoFlush old new
 Happens seen old (OtherFlush caller forced) new = MeetsFlush old new
 Happens seen old (InstallFlush caller t) new = InstallsFlush old new caller t
 Happens seen old (DropFlush caller) new = DropsFlush old new caller
-Happens seen old (BeginCompact caller named job) new = BeginsCompact kept old new caller job
+Happens seen old (BeginCompact caller named job) new = BeginsCompact kept_rows old new caller job
 Happens seen old (NoCompact caller named) new = FindsNoCompact old new
 Happens seen old (OtherCompact caller named) new = MeetsCompact old new
 Happens seen old (InstallCompact caller outputs) new = InstallsCompact old new caller outputs

@@ -21,7 +21,7 @@ use Rattle.core_model.specs.Places.{OpenJob, sequences_of, HasMark, OfEachTick, 
 use Rattle.redis_model.specs.declared.history.Place.{Place}
 use Rattle.redis_model.specs.declared.history.ReadView.{ReadView}
 use Rattle.redis_model.specs.Places.{Opening, steps_of, state_at, sequences, GoUp}
-use Rattle.core_model.specs.Core.{PinAt, Flush, Compaction, CoreState, IsCompactionChoice, newest, flush_task, compact_task, levels_of, with_flushed}
+use Rattle.core_model.specs.Core.{PinAt, Flush, Compaction, CoreState, IsCompactionChoice, newest_rows, flush_task, compact_task, levels_of, with_flushed}
 
 -- ---- the keys
 
@@ -29,7 +29,7 @@ use Rattle.core_model.specs.Core.{PinAt, Flush, Compaction, CoreState, IsCompact
 pub record MeansKeys (core : CoreState) (s : State) : Type 0 where
   pub floor : core.floor ≡ s.floor
   pub early : core.floor ≤ 2 ^ 61
-  pub means : Means (newest core) core.floor (alive s.keys core.floor)
+  pub means : Means (newest_rows core) core.floor (alive s.keys core.floor)
 
 -- ---- pins
 
@@ -76,7 +76,7 @@ pub record AreCounted (opening : Opening) (core : CoreState) (seen : List Place)
 pub record IsMarked (core : CoreState) (seen : List Place) (view : ReadView) (b mark : ℕ) : Type 0 where
   pub grown : mark ≤ length (sequences_of b seen)
   pub old : IsTrue (list_all (λ n. nat_le n view.seq) (take mark (sequences_of b seen)))
-  pub same : mark ≡ length (sequences_of b seen) → (k : Bytes) → IsTrue (is_key k) → stripe k ≡ b → CountsAlike view.rows.map (newest core) core.floor k
+  pub same : mark ≡ length (sequences_of b seen) → (k : Bytes) → IsTrue (is_key k) → stripe k ≡ b → CountsAlike view.rows.map (newest_rows core) core.floor k
 
 -- What a tick saw: rows of that moment, which mean the machine's keys right after it.
 pub record IsSeenView (opening : Opening) (core : CoreState) (seen : List Place) (s : State) (view : ReadView) : Type 0 where

@@ -15,7 +15,7 @@ use Rattle.kv_base.specs.declared.name.TableId.{TableId}
 use Rattle.kv_base.specs.Fields.{u64}
 use Rattle.edit_codec.specs.declared.state.State.{State}
 use Rattle.edit_codec.specs.Codecs.{list_text}
-use Rattle.edit_codec.specs.Records.{id_text, home_text, numbers_text, edit_text, head_text}
+use Rattle.edit_codec.specs.Records.{id_text, home_text, numbers_text, edit_text, state_head_text}
 use Rattle.edit_codec.specs.Records.{FitList}
 use Rattle.edit_codec.specs.Codecs.{EachFits}
 
@@ -82,8 +82,8 @@ edit_written e a b c d f removed added =
     ∙ append_assoc (1 ∷ numbers) (list_text id_text e.removed) (list_text home_text e.added)
 
 pub head_written : (s : State) {none one two three four : Bytes} {homes : List Home} → none ≡ [] → one ≡ none ++ 0 ∷ [] → two ≡ one ++ u64 s.epoch → three ≡ two ++ numbers_text s.log s.last s.floor s.next_run
-    → four ≡ three ++ list_text home_text homes → homes ≡ s.levels → four ≡ head_text s
-unfolding head_text
+    → four ≡ three ++ list_text home_text homes → homes ≡ s.levels → four ≡ state_head_text s
+unfolding state_head_text
 head_written s a b c d f levels =
     let numbers = numbers_text s.log s.last s.floor s.next_run in
     let mark = b ∙ ap (λ w. w ++ 0 ∷ []) a in

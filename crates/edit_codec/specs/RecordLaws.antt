@@ -10,14 +10,14 @@ use Rattle.level_set.specs.declared.home.Home.{Home}
 use Rattle.edit_codec.specs.declared.state.State.{State}
 use Rattle.edit_codec.specs.Codecs.{Anything, Both, read_byte, read_both, read_as, read_list, list_text}
 use Rattle.edit_codec.specs.CodecLaws.{IsCodec, spell_both, codec_byte, codec_u64, codec_text, codec_both, codec_as, codec_list, whole_is_read, only_whole_is_read}
-use Rattle.edit_codec.specs.States.{is_edit, is_head}
-use Rattle.edit_codec.specs.Records.{id_text, home_text, numbers_text, edit_text, head_text, id_of, read_id, HomeParts, home_of, read_home, Numbers, read_numbers, EditParts, edit_of, HeadParts, head_of, read_edit_parts, read_head_parts, behind_mark, read_edit, read_head, Fits64, Fits32, FitsId, FitsHome, FitsNumbers, FitList, FitsEdit, FitsHead, IsEditOf, IsHeadOf}
+use Rattle.edit_codec.specs.States.{is_edit, is_state_head}
+use Rattle.edit_codec.specs.Records.{id_text, home_text, numbers_text, edit_text, state_head_text, id_of_parts, read_id, HomeParts, home_of, read_home, Numbers, read_numbers, EditParts, edit_of, HeadParts, head_of, read_edit_parts, read_head_parts, behind_mark, read_edit, read_state_head, Fits64, Fits32, FitsId, FitsHome, FitsNumbers, FitList, FitsEdit, FitsHead, IsEditOf, IsHeadOf}
 
 -- ---- parts
 
 pub codec_id : IsCodec id_text read_id FitsId
 codec_id =
-    codec_as (spell_both u64 u64) (read_both read_u64 read_u64) (Both Fits64 Fits64) id_of (λ (id : TableId). (id.run, id.part))
+    codec_as (spell_both u64 u64) (read_both read_u64 read_u64) (Both Fits64 Fits64) id_of_parts (λ (id : TableId). (id.run, id.part))
     (codec_both u64 read_u64 Fits64 u64 read_u64 Fits64 codec_u64 codec_u64) (λ x. refl) (λ y. refl)
 
 abbrev spell_home : HomeParts → Bytes
@@ -102,16 +102,16 @@ codec_head =
     let with_epoch = codec_both u64 read_u64 Fits64 (spell_both spell_numbers (list_text home_text)) (read_both read_numbers (read_list read_home)) (Both FitsNumbers (FitList FitsHome)) codec_u64 all in
     codec_as (spell_both u64 (spell_both spell_numbers (list_text home_text))) (read_both read_u64 (read_both read_numbers (read_list read_home))) (Both Fits64 (Both FitsNumbers (FitList FitsHome))) head_of head_parts with_epoch (λ x. refl) (λ y. refl)
 
-pub head_is_read : (state : State) → is_head state ≡ true → FitsHead state → read_head (head_text state) ≡ Some state
-unfolding read_head head_text read_head_parts
+pub head_is_read : (state : State) → is_state_head state ≡ true → FitsHead state → read_state_head (state_head_text state) ≡ Some state
+unfolding read_state_head state_head_text read_head_parts
 head_is_read state is fits =
-    ap (λ (o : Option State). kept is_head o) (whole_is_read head_behind (read_as head_of (read_both read_u64 (read_both read_numbers (read_list read_home)))) FitsHead codec_head state fits)
-    ∙ kept_true is_head state is
+    ap (λ (o : Option State). kept is_state_head o) (whole_is_read head_behind (read_as head_of (read_both read_u64 (read_both read_numbers (read_list read_home)))) FitsHead codec_head state fits)
+    ∙ kept_true is_state_head state is
 
-pub only_head_is_read : (bytes : Bytes) (state : State) → read_head bytes ≡ Some state → IsHeadOf bytes state
-unfolding read_head head_text read_head_parts
+pub only_head_is_read : (bytes : Bytes) (state : State) → read_state_head bytes ≡ Some state → IsHeadOf bytes state
+unfolding read_state_head state_head_text read_head_parts
 only_head_is_read bytes state e =
-    let limited = kept_is is_head (option_and_then read_head_parts (behind_mark 0 bytes)) state e in
+    let limited = kept_is is_state_head (option_and_then read_head_parts (behind_mark 0 bytes)) state e in
     let marked = and_then_is read_head_parts (behind_mark 0 bytes) state limited.0 in
     let whole = only_whole_is_read head_behind (read_as head_of (read_both read_u64 (read_both read_numbers (read_list read_home)))) FitsHead codec_head marked.0 state marked.2 in
     record {

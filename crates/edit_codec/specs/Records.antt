@@ -7,7 +7,7 @@ use Rattle.level_set.specs.declared.edit.Edit.{Edit}
 use Rattle.level_set.specs.declared.home.Home.{Home}
 use Rattle.edit_codec.specs.declared.state.State.{State}
 use Rattle.edit_codec.specs.Codecs.{Reader, EachFits, read_byte, read_both, read_as, read_list, read_whole, list_text}
-use Rattle.edit_codec.specs.States.{is_edit, is_head}
+use Rattle.edit_codec.specs.States.{is_edit, is_state_head}
 
 -- ---- the bytes
 
@@ -26,19 +26,19 @@ unfoldable pub edit_text : Edit → Bytes
 edit_text edit = 1 ∷ (numbers_text edit.log edit.last edit.floor edit.next_run ++ (list_text id_text edit.removed ++ list_text home_text edit.added))
 
 -- the byte 0, the epoch, the numbers, and the tables
-unfoldable pub head_text : State → Bytes
-head_text state = 0 ∷ (u64 state.epoch ++ (numbers_text state.log state.last state.floor state.next_run ++ list_text home_text state.levels))
+unfoldable pub state_head_text : State → Bytes
+state_head_text state = 0 ∷ (u64 state.epoch ++ (numbers_text state.log state.last state.floor state.next_run ++ list_text home_text state.levels))
 
 -- ---- back
 
 abbrev pub IdParts : Type 0
 IdParts = ℕ × ℕ
 
-abbrev pub id_of : IdParts → TableId
-id_of p = record { run = p.0; part = p.1 }
+abbrev pub id_of_parts : IdParts → TableId
+id_of_parts p = record { run = p.0; part = p.1 }
 
 abbrev pub read_id : Reader TableId
-read_id = read_as id_of (read_both read_u64 read_u64)
+read_id = read_as id_of_parts (read_both read_u64 read_u64)
 
 abbrev pub HomeParts : Type 0
 HomeParts = ℕ × (TableId × (ℕ × (ℕ × (Bytes × Bytes))))
@@ -83,8 +83,8 @@ unfoldable pub read_edit : Bytes → Option Edit
 read_edit bytes = kept is_edit (option_and_then read_edit_parts (behind_mark 1 bytes))
 
 -- the state that a head with these bytes says, if they are one's
-unfoldable pub read_head : Bytes → Option State
-read_head bytes = kept is_head (option_and_then read_head_parts (behind_mark 0 bytes))
+unfoldable pub read_state_head : Bytes → Option State
+read_state_head bytes = kept is_state_head (option_and_then read_head_parts (behind_mark 0 bytes))
 
 -- ---- what fits its fields
 
@@ -120,6 +120,6 @@ pub record IsEditOf (bytes : Bytes) (edit : Edit) : Type 0 where
 
 -- the same of the head that says a state
 pub record IsHeadOf (bytes : Bytes) (state : State) : Type 0 where
-  pub spelled : bytes ≡ head_text state
-  pub limits : is_head state ≡ true
+  pub spelled : bytes ≡ state_head_text state
+  pub limits : is_state_head state ≡ true
   pub fits : FitsHead state

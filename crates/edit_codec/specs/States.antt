@@ -19,8 +19,8 @@ abbrev pub is_edit : Edit → Bool
 is_edit edit = are_numbers edit.log edit.last edit.floor edit.next_run && list_all is_table edit.added
 
 -- the epoch is from 1 on, and the tables may stand together and are of runs before the next one
-abbrev pub is_head : State → Bool
-is_head state =
+abbrev pub is_state_head : State → Bool
+is_state_head state =
     nat_le 1 state.epoch && nat_le state.epoch last_epoch && are_numbers state.log state.last state.floor state.next_run
     && are_tables state.levels && are_runs_below state.next_run state.levels
 
@@ -31,12 +31,12 @@ abbrev pub new_state : State
 new_state = record { epoch = 0; log = 1; last = 0; floor = 0; next_run = 1; levels = [] }
 
 -- the numbers of the edit, and these tables
-abbrev pub with_edit : State → Edit → List Home → State
-with_edit state edit tables = record { epoch = state.epoch; log = edit.log; last = edit.last; floor = edit.floor; next_run = edit.next_run; levels = tables }
+abbrev pub state_with_edit : State → Edit → List Home → State
+state_with_edit state edit tables = record { epoch = state.epoch; log = edit.log; last = edit.last; floor = edit.floor; next_run = edit.next_run; levels = tables }
 
 -- the state after an edit; none where its floor is below, or its tables are off the rules
 unfoldable pub state_after : State → Edit → Option State
-state_after state edit = if nat_le state.floor edit.floor then option_map (with_edit state edit) (tables_after state.levels edit) else None
+state_after state edit = if nat_le state.floor edit.floor then option_map (state_with_edit state edit) (tables_after state.levels edit) else None
 
 -- the same in this epoch
 abbrev pub with_epoch : ℕ → State → State

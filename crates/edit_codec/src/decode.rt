@@ -2,8 +2,8 @@
 
 ghost use Rattle.std.specs.Prelude.{◌≡◌, ◌&&◌, IfOk, Some, nat_le, option_map};
 ghost use Rattle.kv_base.specs.Map.{kept};
-ghost use Rattle.edit_codec.specs.Records.{behind_mark, read_edit, read_edit_parts, read_head, read_head_parts};
-ghost use Rattle.edit_codec.specs.States.{are_numbers as are_numbers_of, is_edit as is_edit_of, is_head, last_epoch};
+ghost use Rattle.edit_codec.specs.Records.{behind_mark, read_edit, read_edit_parts, read_state_head, read_head_parts};
+ghost use Rattle.edit_codec.specs.States.{are_numbers as are_numbers_of, is_edit as is_edit_of, is_state_head, last_epoch};
 
 use crate::bounds::{are_all_tables, are_below, are_numbers};
 use crate::encode::{EDIT, HEAD};
@@ -97,9 +97,9 @@ struct HeadParts {
 ///
 /// A body is as `encode_head` writes it: the epoch is from 1 to 2^62, the numbers and each table are as an edit's, the
 /// tables may stand together and in this order, and each is of a run before the next one. Nothing stands behind.
-#[tactic(auto, unfolding(crate::specs::Records::read_head))]
+#[tactic(auto, unfolding(crate::specs::Records::read_state_head))]
 pub fn decode_head(alloc: Global, body: &[u8]) -> Result<Option<State>, NoMem>
-    ensures { IfOk result (λ found. found ≡ read_head body.now) }
+    ensures { IfOk result (λ found. found ≡ read_state_head body.now) }
 {
     let Some(rest) = behind(HEAD, body) else {
         return Ok(None);
@@ -148,7 +148,7 @@ fn are_within(parts: &HeadParts) -> bool
 
 /// The state, where it is within its limits.
 fn state_of(parts: HeadParts) -> Option<State>
-    ensures { result ≡ kept is_head (Some (record { epoch = parts.epoch; log = parts.log; last = parts.last; floor = parts.floor; next_run = parts.next_run; levels = parts.homes.items })) }
+    ensures { result ≡ kept is_state_head (Some (record { epoch = parts.epoch; log = parts.log; last = parts.last; floor = parts.floor; next_run = parts.next_run; levels = parts.homes.items })) }
 {
     if !are_within(&parts) {
         return None;

@@ -6,9 +6,9 @@ ghost use Rattle.kv_base.specs.Fields.{u32, u64};
 ghost use Rattle.level_set.specs.Tables.{is_table};
 ghost use Rattle.edit_codec.specs.Codecs.{EachFits};
 ghost use Rattle.edit_codec.specs.Codecs.{list_text};
-ghost use Rattle.edit_codec.specs.Records.{edit_text, head_text, home_text, id_text, numbers_text, read_edit, read_head};
+ghost use Rattle.edit_codec.specs.Records.{edit_text, state_head_text, home_text, id_text, numbers_text, read_edit, read_state_head};
 ghost use Rattle.edit_codec.specs.Records.{FitList, FitsHome, FitsId, FitsNumbers};
-ghost use Rattle.edit_codec.specs.States.{is_edit, is_head, with_epoch};
+ghost use Rattle.edit_codec.specs.States.{is_edit, is_state_head, with_epoch};
 
 use crate::state::State;
 use kv_base::{NoMem, TableId};
@@ -50,8 +50,8 @@ pub fn encode_edit(alloc: Global, edit: &Edit) -> Result<RecordBody, NoMem>
 ///
 /// It is refused where memory is short, and where it has more than 2^32 - 1 bytes.
 pub fn encode_head(alloc: Global, epoch: u64, state: &State) -> Result<RecordBody, NoMem>
-    ensures bytes { IfOk result (λ body. body ≡ head_text (with_epoch epoch state.now)) }
-    ensures read { IfOk result (λ body. is_head (with_epoch epoch state.now) ≡ true → read_head body ≡ Some (with_epoch epoch state.now)) }
+    ensures bytes { IfOk result (λ body. body ≡ state_head_text (with_epoch epoch state.now)) }
+    ensures read { IfOk result (λ body. is_state_head (with_epoch epoch state.now) ≡ true → read_state_head body ≡ Some (with_epoch epoch state.now)) }
 {
     let mut body = BodyWriter::new(alloc)?;
     body.push(HEAD)?;

@@ -11,7 +11,7 @@ use Rattle.row_model.specs.Rows.{seen_at, newest, at}
 use Rattle.lives_model.specs.Rows.{Elements, meta_key, row_key}
 use Rattle.lives_model.specs.Clean.{live_at, clean}
 use Rattle.filter_laws.specs.Watchers.{Watcher}
-use Rattle.filter_laws.specs.Kept.{buried, kept}
+use Rattle.filter_laws.specs.Kept.{buried, kept_rows}
 
 h : Bytes
 h = codes "h"
@@ -43,33 +43,33 @@ pin = record { seq = 1; moment = 2 }
 -- ---- what is kept
 
 -- nobody reads it: all goes
-all_goes : kept (now ∷ []) (removed ∷ made ∷ field ∷ []) [] (removed ∷ made ∷ field ∷ []) ≡ []
-unfolding h made field removed now kept seen_at newest at empty get insert choose live_at u32 u64 text read_u32 read_u64 read_text is_raw_within raw_text read_life raw_parts read_raw is_meta_within meta_text meta_parts read_life_numbers read_meta meta_key row_key
+all_goes : kept_rows (now ∷ []) (removed ∷ made ∷ field ∷ []) [] (removed ∷ made ∷ field ∷ []) ≡ []
+unfolding h made field removed now kept_rows seen_at newest at empty get insert choose live_at u32 u64 text read_u32 read_u64 read_text is_raw_within raw_text read_life raw_parts read_raw is_meta_within meta_text meta_parts read_life_numbers read_meta meta_key row_key
 all_goes = refl
 
 -- the delete stays over an older row
-delete_stays : kept (now ∷ []) (removed ∷ made ∷ field ∷ []) (older ∷ []) (removed ∷ made ∷ field ∷ older ∷ []) ≡ removed ∷ []
-unfolding h made field removed older now kept seen_at newest at empty get insert choose live_at u32 u64 text read_u32 read_u64 read_text is_raw_within raw_text read_life raw_parts read_raw is_meta_within meta_text meta_parts read_life_numbers read_meta meta_key row_key
+delete_stays : kept_rows (now ∷ []) (removed ∷ made ∷ field ∷ []) (older ∷ []) (removed ∷ made ∷ field ∷ older ∷ []) ≡ removed ∷ []
+unfolding h made field removed older now kept_rows seen_at newest at empty get insert choose live_at u32 u64 text read_u32 read_u64 read_text is_raw_within raw_text read_life raw_parts read_raw is_meta_within meta_text meta_parts read_life_numbers read_meta meta_key row_key
 delete_stays = refl
 
 -- a pin reads it: all stays
-all_stays : kept (pin ∷ now ∷ []) (removed ∷ made ∷ field ∷ []) [] (removed ∷ made ∷ field ∷ []) ≡ removed ∷ made ∷ field ∷ []
-unfolding h made field removed now pin kept seen_at newest at empty get insert choose live_at u32 u64 text read_u32 read_u64 read_text is_raw_within raw_text read_life raw_parts read_raw is_meta_within meta_text meta_parts read_life_numbers read_meta meta_key row_key
+all_stays : kept_rows (pin ∷ now ∷ []) (removed ∷ made ∷ field ∷ []) [] (removed ∷ made ∷ field ∷ []) ≡ removed ∷ made ∷ field ∷ []
+unfolding h made field removed now pin kept_rows seen_at newest at empty get insert choose live_at u32 u64 text read_u32 read_u64 read_text is_raw_within raw_text read_life raw_parts read_raw is_meta_within meta_text meta_parts read_life_numbers read_meta meta_key row_key
 all_stays = refl
 
 -- expired metadata becomes a delete, which stays over an older row
-burial_stays : kept (now ∷ []) (ending ∷ field ∷ []) (older ∷ []) (ending ∷ field ∷ older ∷ []) ≡ buried ending ∷ []
-unfolding h ending field older now kept seen_at newest at empty get insert choose live_at u32 u64 text read_u32 read_u64 read_text is_raw_within raw_text read_life raw_parts read_raw is_meta_within meta_text meta_parts read_life_numbers read_meta meta_key row_key
+burial_stays : kept_rows (now ∷ []) (ending ∷ field ∷ []) (older ∷ []) (ending ∷ field ∷ older ∷ []) ≡ buried ending ∷ []
+unfolding h ending field older now kept_rows seen_at newest at empty get insert choose live_at u32 u64 text read_u32 read_u64 read_text is_raw_within raw_text read_life raw_parts read_raw is_meta_within meta_text meta_parts read_life_numbers read_meta meta_key row_key
 burial_stays = refl
 
 -- and goes over none
-burial_goes : kept (now ∷ []) (ending ∷ field ∷ []) [] (ending ∷ field ∷ []) ≡ []
-unfolding h ending field now kept seen_at newest at empty get insert choose live_at u32 u64 text read_u32 read_u64 read_text is_raw_within raw_text read_life raw_parts read_raw is_meta_within meta_text meta_parts read_life_numbers read_meta meta_key row_key
+burial_goes : kept_rows (now ∷ []) (ending ∷ field ∷ []) [] (ending ∷ field ∷ []) ≡ []
+unfolding h ending field now kept_rows seen_at newest at empty get insert choose live_at u32 u64 text read_u32 read_u64 read_text is_raw_within raw_text read_life raw_parts read_raw is_meta_within meta_text meta_parts read_life_numbers read_meta meta_key row_key
 burial_goes = refl
 
 -- at an earlier pin's moment it has not expired: all stays
-pin_keeps : kept (pin ∷ now ∷ []) (ending ∷ field ∷ []) [] (ending ∷ field ∷ []) ≡ ending ∷ field ∷ []
-unfolding h ending field now pin kept seen_at newest at empty get insert choose live_at u32 u64 text read_u32 read_u64 read_text is_raw_within raw_text read_life raw_parts read_raw is_meta_within meta_text meta_parts read_life_numbers read_meta meta_key row_key
+pin_keeps : kept_rows (pin ∷ now ∷ []) (ending ∷ field ∷ []) [] (ending ∷ field ∷ []) ≡ ending ∷ field ∷ []
+unfolding h ending field now pin kept_rows seen_at newest at empty get insert choose live_at u32 u64 text read_u32 read_u64 read_text is_raw_within raw_text read_life raw_parts read_raw is_meta_within meta_text meta_parts read_life_numbers read_meta meta_key row_key
 pin_keeps = refl
 
 -- ---- what goes wrong

@@ -4,7 +4,7 @@ use Rattle.std.proofs.Common.{◌≡◌, ℕ, ◌+◌, ◌<◌, ◌≤◌, List,
 use Rattle.std.proofs.lemmas.Bool.Decides.{nat_tests}
 use Rattle.std.specs.Prelude.{◌&&◌, ◌==◌, not, Option, Some, None, IsTrue, IsFalse, is_some, option_and_then}
 use Rattle.kv_base.specs.Map.{Bytes, kept, get, empty}
-use Rattle.kv_base.specs.MetaValues.{MetaValue, StringValue, LifeValue, ListValue, meta_text, read_meta}
+use Rattle.kv_base.specs.MetaValues.{MetaValue, StringValue, LifeValue, ListValue, meta_text, read_meta, version_of}
 use Rattle.kv_base.specs.MetaValueLaws.{meta_is_read}
 use Rattle.batch_codec.specs.Batches.{Batch, after, joined}
 use Rattle.redis_model.specs.declared.reply.Reply.{Reply}
@@ -17,10 +17,10 @@ use Rattle.redis_model.specs.Machine.{apply_alive}
 use Rattle.lives_model.specs.Rows.{Rows, IsOnGrammar, meta_key}
 use Rattle.lives_model.specs.RowKeys.{IsOfKey}
 use Rattle.lives_model.specs.RowKeyLaws.{meta_key_is, row_key_is_no_meta_key}
-use Rattle.lives_model.specs.Clean.{is_live, live_at, version_of, is_version_of}
+use Rattle.lives_model.specs.Clean.{is_live, live_at, is_version_of}
 use Rattle.lives_model.specs.Means.{Means, LifeAt, meta_for}
 use Rattle.lives_model.specs.Plans.{IsStep, IsReady, IsPlanFor, PlannedPart, AreParts, join_parts, version, KeyPlan, LeavesEntry, WritesEntry, is_store, holds_type, new_life, life_in, life_after, keys_in}
-use Rattle.lives_model.specs.StepLaws.{live_still, live_gone, placed}
+use Rattle.lives_model.specs.StepLaws.{live_still, live_gone, get-placed}
 use Rattle.lives_model.specs.JoinedBatchLaws.{after-empty, after-joined}
 use Rattle.lives_model.specs.CleanLaws.{means_later}
 use Rattle.lives_model.specs.OwnKeys.{IsAmong}
@@ -76,7 +76,7 @@ module _ (c : Rows) (t fresh : ℕ) (m : RedisMap) (d : Command) (b : Batch) (si
   unfolding live_at
   written_stays_dead e w later le =
       let meta : MetaValue = meta_for e.value (life_after c t fresh m d k e.value) w.expire in
-      ap (λ (o : Option Bytes). has_version (kept (is_live later) (option_and_then read_meta o))) (placed c b (meta_key k) (Some (meta_text meta)) w.meta)
+      ap (λ (o : Option Bytes). has_version (kept (is_live later) (option_and_then read_meta o))) (get-placed c b (meta_key k) (Some (meta_text meta)) w.meta)
       ∙ ap (λ (o : Option MetaValue). has_version (kept (is_live later) o)) (meta_is_read meta w.fits)
       ∙ other_live later meta v (other_version e.value (life_after c t fresh m d k e.value) w.expire v (life_differs c t fresh m d k e.value v low (dead t late)))
 

@@ -53,6 +53,6 @@ AreIssuedBefore inputs ds base = (row : Row) → Contains inputs row → IfSome 
 -- What the rules leave stands in the place of the inputs, and the other rows are as before.
 pub record IsPutInPlace (rows new others deeper : List Row) (job : Filtering) : Type 0 where
   pub before : HaveSameRows (others ++ job.inputs) rows
-  pub after_ : HaveSameRows (others ++ rules.kept job.watch job.inputs deeper job.all) new
+  pub after_ : HaveSameRows (others ++ rules.kept_rows job.watch job.inputs deeper job.all) new
   pub apart : AreApart (others ++ job.inputs)
   pub placed : ArePlaced others job.inputs deeper

@@ -5,7 +5,7 @@ use Rattle.std.specs.List.{list_any, Contains}
 use Rattle.std.proofs.lemmas.List.Elements.{Contains-append_left, Contains-append_right, Contains-append_cases}
 use Rattle.kv_base.specs.Map.{Bytes, kept}
 use Rattle.kv_base.specs.RawKeys.{read_raw}
-use Rattle.kv_base.specs.MetaValues.{MetaValue}
+use Rattle.kv_base.specs.MetaValues.{MetaValue, version_of}
 use Rattle.batch_codec.specs.Batches.{Batch, after}
 use Rattle.redis_model.specs.declared.reply.Reply.{Reply}
 use Rattle.redis_model.specs.declared.command.Cmds.{Cmds}
@@ -15,7 +15,7 @@ use Rattle.kv_base.specs.declared.row.Row.{Row}
 use Rattle.row_model.specs.Rows.{at, are_upto, AreApart}
 use Rattle.row_model.specs.RowMapLaws.{same_rows_alike}
 use Rattle.lives_model.specs.Rows.{Rows}
-use Rattle.lives_model.specs.Clean.{is_live, live_at, version_of, is_version_of, clean}
+use Rattle.lives_model.specs.Clean.{is_live, live_at, is_version_of, clean}
 use Rattle.lives_model.specs.CleanLaws.{live_later}
 use Rattle.lives_model.specs.Plans.{IsPlanFor, version, keys_in}
 use Rattle.filter_laws.specs.Watchers.{Watcher, IsLater, IsWatched}
@@ -201,7 +201,7 @@ module _ (rows new others deeper : List Row) (last : ℕ) (pins : List Watcher) 
   as_clean : (v : Watcher) → IsWatched job.watch job.now v → AreDead job.watch job.inputs job.all (at rows v.seq) v.moment → clean (at new v.seq) v.moment ≡ clean (at rows v.seq) v.moment
   as_clean v watched dead =
       ap (λ (c : Rows). clean c v.moment)
-      (same_rows_alike (others ++ rules.kept job.watch job.inputs deeper job.all) new v.seq (kept_apart_from job.watch job.inputs deeper job.all others apart_others apart_inputs put.placed) put.after_)
+      (same_rows_alike (others ++ rules.kept_rows job.watch job.inputs deeper job.all) new v.seq (kept_apart_from job.watch job.inputs deeper job.all others apart_others apart_inputs put.placed) put.after_)
       ∙ kept_is_clean job.watch job.now others job.inputs deeper job.all v can watched (subst (λ (c : Rows). AreDead job.watch job.inputs job.all c v.moment) here dead)
       ∙ ap (λ (c : Rows). clean c v.moment) (sym here)
     where

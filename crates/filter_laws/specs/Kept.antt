@@ -104,8 +104,8 @@ needed_rows watch inputs deeper rows = filter (λ row. not (is_idle watch inputs
 -- ---- the four
 
 -- what is left of the inputs, by who watches, the rows of deeper levels and all rows
-unfoldable pub kept : List Watcher → List Row → List Row → List Row → List Row
-kept watch inputs deeper all = needed_rows watch inputs deeper (rows_with_lives watch all (buried_rows watch inputs (seen_rows watch inputs inputs)))
+unfoldable pub kept_rows : List Watcher → List Row → List Row → List Row → List Row
+kept_rows watch inputs deeper all = needed_rows watch inputs deeper (rows_with_lives watch all (buried_rows watch inputs (seen_rows watch inputs inputs)))
 
 -- what is left of a row that is seen: the row, or its burial
 pub record IsRowOrBurial (watch : List Watcher) (inputs : List Row) (row o : Row) : Type 0 where

@@ -6,7 +6,7 @@ use Rattle.std.specs.List.{list_all, Contains, filter_map}
 use Rattle.kv_base.specs.Map.{Bytes, same, kept, get, same_map}
 use Rattle.kv_base.specs.InversionLaws.{both_first, both_second, number_is}
 use Rattle.kv_base.specs.RawKeys.{RawKey, MetaKey, ElementKey, ScoreKey, read_raw}
-use Rattle.kv_base.specs.MetaValues.{MetaValue, read_meta}
+use Rattle.kv_base.specs.MetaValues.{MetaValue, read_meta, expire_of, version_of}
 use Rattle.kv_base.specs.declared.row.Row.{Row}
 use Rattle.row_model.specs.Rows.{newer, seen_at, at}
 use Rattle.row_model.specs.RowLaws.{seen_in_both, seen_is, seen_on}
@@ -14,7 +14,7 @@ use Rattle.row_model.specs.RowMaps.{value_seen}
 use Rattle.row_model.specs.RowMapLaws.{get_at}
 use Rattle.lives_model.specs.Rows.{Rows, meta_key}
 use Rattle.lives_model.specs.RowKeyLaws.{only_meta_key_is_read}
-use Rattle.lives_model.specs.Clean.{deadline_from, expire_of, is_live, live_at, version_of, is_version_of, counts, clean}
+use Rattle.lives_model.specs.Clean.{deadline_from, is_live, live_at, is_version_of, counts, clean}
 use Rattle.lives_model.specs.CleanLaws.{get-clean, kept_alike, lived_before}
 use Rattle.lives_model.specs.StepLaws.{kept_none, number_itself}
 use Rattle.filter_laws.specs.Watchers.{Watcher, IsWatched}
@@ -383,6 +383,6 @@ module _ (watch : List Watcher) (now : Watcher) (others inputs deeper all : List
 -- went are dead for it.
 pub kept_is_clean : (watch : List Watcher) (now : Watcher) (others inputs deeper all : List Row) (v : Watcher) → CanReplace watch now others inputs deeper → IsWatched watch now v
     → AreDead watch inputs all (at (others ++ inputs) v.seq) v.moment
-    → clean (at (others ++ rules.kept watch inputs deeper all) v.seq) v.moment ≡ clean (at (others ++ inputs) v.seq) v.moment
+    → clean (at (others ++ rules.kept_rows watch inputs deeper all) v.seq) v.moment ≡ clean (at (others ++ inputs) v.seq) v.moment
 kept_is_clean watch now others inputs deeper all v can watched dead =
     ap (λ (rows : List Row). clean (at (others ++ rows) v.seq) v.moment) (kept_is watch inputs deeper all) ∙ left_is_clean watch now others inputs deeper all v can watched dead

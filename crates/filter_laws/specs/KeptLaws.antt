@@ -62,20 +62,20 @@ raw_of_row raw (Some value) h = by_read (read_raw raw) h
 
 module _ (watch : List Watcher) (inputs deeper all : List Row) where
   -- each is a row of the inputs or its burial
-  pub kept_row : (o : Row) → Contains (rules.kept watch inputs deeper all) o → (row : Row) × Contains inputs row × IsRowOrBurial watch inputs row o
+  pub kept_row : (o : Row) → Contains (rules.kept_rows watch inputs deeper all) o → (row : Row) × Contains inputs row × IsRowOrBurial watch inputs row o
   kept_row o there =
       let a = from_left (by_rules watch inputs deeper all) inputs o (subst (λ (rows : List Row). Contains rows o) (kept_is watch inputs deeper all) there) in
       (a.0, a.1, left_is watch inputs deeper all a.0 o a.2)
 
   -- they are in order, as the inputs are
-  pub kept_in_order : IsTrue (is_ordered inputs) → IsTrue (is_ordered (rules.kept watch inputs deeper all))
+  pub kept_in_order : IsTrue (is_ordered inputs) → IsTrue (is_ordered (rules.kept_rows watch inputs deeper all))
   kept_in_order h =
       ap is_ordered (kept_is watch inputs deeper all)
       ∙ ordered_left (by_rules watch inputs deeper all) (λ row o e. (left_is watch inputs deeper all row o e).raw) (λ row o e. (left_is watch inputs deeper all row o e).seq) inputs h
 
   -- they are on the grammar
-  pub kept_on_grammar : IsTrue (are_row_texts inputs) → IsTrue (are_row_texts (rules.kept watch inputs deeper all))
-  kept_on_grammar h = all_pass is_row_text (rules.kept watch inputs deeper all) (λ o there.
+  pub kept_on_grammar : IsTrue (are_row_texts inputs) → IsTrue (are_row_texts (rules.kept_rows watch inputs deeper all))
+  kept_on_grammar h = all_pass is_row_text (rules.kept_rows watch inputs deeper all) (λ o there.
       let a = kept_row o there in
       by_kind o a.0 (all_there is_row_text inputs a.0 h a.1) a.2.is)
     where
@@ -84,27 +84,27 @@ module _ (watch : List Watcher) (inputs deeper all : List Row) where
       by_kind o row text (inr both) = ap is_row_text both.0 ∙ raw_of_row row.raw row.value text
 
   -- they are not above what the inputs are not above
-  pub kept_upto : (last : ℕ) → IsTrue (are_upto last inputs) → IsTrue (are_upto last (rules.kept watch inputs deeper all))
-  kept_upto last h = all_pass (λ row. nat_le row.seq last) (rules.kept watch inputs deeper all) (λ o there.
+  pub kept_upto : (last : ℕ) → IsTrue (are_upto last inputs) → IsTrue (are_upto last (rules.kept_rows watch inputs deeper all))
+  kept_upto last h = all_pass (λ row. nat_le row.seq last) (rules.kept_rows watch inputs deeper all) (λ o there.
       let a = kept_row o there in
       ap (λ n. nat_le n last) a.2.seq ∙ all_there (λ row. nat_le row.seq last) inputs a.0 h a.1)
 
   -- they are newer and older than what the inputs are newer and older than
-  pub kept_older : (above : List Row) → AreNewer above inputs → AreNewer above (rules.kept watch inputs deeper all)
+  pub kept_older : (above : List Row) → AreNewer above inputs → AreNewer above (rules.kept_rows watch inputs deeper all)
   kept_older above h row o there too is = let a = kept_row o too in let low = h row a.0 there a.1 (is ∙ a.2.raw) in let seq = a.2.seq in omega arith
 
   -- they are newer than what the inputs are newer than
-  pub kept_newer : (below : List Row) → AreNewer inputs below → AreNewer (rules.kept watch inputs deeper all) below
+  pub kept_newer : (below : List Row) → AreNewer inputs below → AreNewer (rules.kept_rows watch inputs deeper all) below
   kept_newer below h o other there too is = let a = kept_row o there in let low = h a.0 other a.1 too (sym a.2.raw ∙ is) in let seq = a.2.seq in omega arith
 
   -- no two of them have raw key and sequence equal
-  pub kept_apart : AreApart inputs → AreApart (rules.kept watch inputs deeper all)
+  pub kept_apart : AreApart inputs → AreApart (rules.kept_rows watch inputs deeper all)
   kept_apart apart =
       subst AreApart (sym (kept_is watch inputs deeper all))
       (apart_left (by_rules watch inputs deeper all) inputs apart (λ row o e. (left_is watch inputs deeper all row o e).raw) (λ row o e. (left_is watch inputs deeper all row o e).seq))
 
   -- no other row has raw key and sequence of one of them
-  pub kept_untied : (others : List Row) (other o : Row) → ArePlaced others inputs deeper → Contains others other → Contains (rules.kept watch inputs deeper all) o → other.raw ≡ o.raw → other.seq ≡ o.seq → ⊥
+  pub kept_untied : (others : List Row) (other o : Row) → ArePlaced others inputs deeper → Contains others other → Contains (rules.kept_rows watch inputs deeper all) o → other.raw ≡ o.raw → other.seq ≡ o.seq → ⊥
   kept_untied others other o placed there too raw seq = by_place (placed other a.0 there a.1 (raw ∙ a.2.raw))
     where
       a : (row : Row) × Contains inputs row × IsRowOrBurial watch inputs row o
@@ -115,11 +115,11 @@ module _ (watch : List Watcher) (inputs deeper all : List Row) where
       by_place (inr low) = let e = a.2.seq in let l = low.0 in omega (arith, l, e, seq)
 
   -- so they are apart from the others
-  pub kept_apart_from : (others : List Row) → AreApart others → AreApart inputs → ArePlaced others inputs deeper → AreApart (others ++ rules.kept watch inputs deeper all)
+  pub kept_apart_from : (others : List Row) → AreApart others → AreApart inputs → ArePlaced others inputs deeper → AreApart (others ++ rules.kept_rows watch inputs deeper all)
   kept_apart_from others apart_others apart placed x y there too raw seq =
-      by_parts (Contains-append_cases others (rules.kept watch inputs deeper all) x there) (Contains-append_cases others (rules.kept watch inputs deeper all) y too)
+      by_parts (Contains-append_cases others (rules.kept_rows watch inputs deeper all) x there) (Contains-append_cases others (rules.kept_rows watch inputs deeper all) y too)
     where
-      by_parts : Contains others x ⊎ Contains (rules.kept watch inputs deeper all) x → Contains others y ⊎ Contains (rules.kept watch inputs deeper all) y → x ≡ y
+      by_parts : Contains others x ⊎ Contains (rules.kept_rows watch inputs deeper all) x → Contains others y ⊎ Contains (rules.kept_rows watch inputs deeper all) y → x ≡ y
       by_parts (inl a) (inl b) = apart_others x y a b raw seq
       by_parts (inr a) (inr b) = kept_apart apart x y a b raw seq
       by_parts (inl a) (inr b) = absurd (kept_untied others x y placed a b raw seq)

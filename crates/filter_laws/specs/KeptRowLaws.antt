@@ -108,8 +108,8 @@ module _ (watch : List Watcher) (inputs deeper all : List Row) where
   by_rules row = cond (is_seen watch inputs row) (after_bury (bury watch inputs row)) None
 
   -- what is kept is what is left row by row
-  pub kept_is : rules.kept watch inputs deeper all ≡ filter_map by_rules inputs
-  unfolding rules.kept
+  pub kept_is : rules.kept_rows watch inputs deeper all ≡ filter_map by_rules inputs
+  unfolding rules.kept_rows
   kept_is = passes (is_seen watch inputs) (bury watch inputs) (λ row. not (is_orphan watch all row)) (λ row. not (is_idle watch inputs deeper row)) inputs
 
   twice : (a b : Bool) (r o : Row) → cond a (cond b (Some r) None) None ≡ Some o → r ≡ o

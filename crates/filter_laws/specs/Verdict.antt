@@ -6,7 +6,8 @@ use Rattle.kv_base.specs.RawKeys.{RawKey, read_raw}
 use Rattle.kv_base.specs.declared.row.Row.{Row}
 use Rattle.row_model.specs.Rows.{at}
 use Rattle.lives_model.specs.RowKeys.{key_of}
-use Rattle.lives_model.specs.Clean.{live_at, version_of, is_version_of}
+use Rattle.kv_base.specs.MetaValues.{version_of}
+use Rattle.lives_model.specs.Clean.{live_at, is_version_of}
 use Rattle.filter_laws.specs.Watchers.{Watcher}
 use Rattle.filter_laws.specs.declared.verdict.Verdict.{Verdict}
 use Rattle.filter_laws.specs.declared.verdict.Verdict.TheVariants.{Keep, Bury, Drop}

@@ -142,7 +142,7 @@ left_alike g h (x ∷ xs) same = λ i. cons_option (same x (there_first xs x) i)
 
 -- What a compaction keeps is what the verdict of each input row leaves of it, where the notes on each are true.
 pub kept_is_verdict : (watch : List Watcher) (inputs deeper all : List Row) (notes : Row → Notes) → AreApart inputs → ((row : Row) → Contains inputs row → AreTrue watch inputs deeper all row (notes row))
-    → rules.kept watch inputs deeper all ≡ filter_map (λ row. after_verdict (verdict row watch (notes row)) row) inputs
+    → rules.kept_rows watch inputs deeper all ≡ filter_map (λ row. after_verdict (verdict row watch (notes row)) row) inputs
 kept_is_verdict watch inputs deeper all notes apart true_notes =
     kept_is watch inputs deeper all
     ∙ left_alike (by_rules watch inputs deeper all) (λ row. after_verdict (verdict row watch (notes row)) row) inputs (λ row there. verdict_is watch inputs deeper all apart row there (notes row) (true_notes row there))

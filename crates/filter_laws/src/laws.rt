@@ -17,7 +17,7 @@ ghost use Rattle.lives_model.specs.Plans.{IsPlanFor, IsReady, version, keys_in};
 ghost use Rattle.lives_model.specs.Lapses.{lapses};
 ghost use Rattle.plan_laws.specs.HoldsLater.{IsCurrent};
 ghost use Rattle.filter_laws.specs.Watchers.{Watcher, IsWatched};
-ghost use Rattle.filter_laws.specs.Kept.{kept, IsRowOrBurial};
+ghost use Rattle.filter_laws.specs.Kept.{kept_rows, IsRowOrBurial};
 ghost use Rattle.filter_laws.specs.Verdict.{Notes, newer_note, verdict, after_verdict, AreTrue, IsNextNewer};
 ghost use Rattle.filter_laws.specs.Replaced.{AreNewer, ArePlaced, CanReplace, IsDeadFrom, AreDead};
 ghost use Rattle.filter_laws.specs.Filtered.{Filtering, begun, AreIssuedBefore, StaysDead, IsPutInPlace};
@@ -27,7 +27,7 @@ ghost use Rattle.filter_laws.specs.IssuedInputs.{HasIssuedVersion};
 pub fn kept_rows_are_verdicts()
     ensures { (watch : List Watcher) (inputs deeper all : List Row) (notes : Row → Notes) → AreApart inputs →
         ((row : Row) → Contains inputs row → AreTrue watch inputs deeper all row (notes row)) →
-        kept watch inputs deeper all ≡ filter_map (λ row. after_verdict (verdict row watch (notes row)) row) inputs }
+        kept_rows watch inputs deeper all ≡ filter_map (λ row. after_verdict (verdict row watch (notes row)) row) inputs }
 {}
 
 /// In inputs in order the next newer row of a raw key stands right in front.
@@ -40,20 +40,20 @@ pub fn the_next_newer_row_is_the_one_before()
 /// Each row that is kept is an input row or the burial of one. Kept rows are on the grammar and in order, as the inputs are,
 /// and newer and older than what these are newer and older than.
 pub fn kept_rows_are_input_rows()
-    ensures from { (watch : List Watcher) (inputs deeper all : List Row) (o : Row) → Contains (kept watch inputs deeper all) o →
+    ensures from { (watch : List Watcher) (inputs deeper all : List Row) (o : Row) → Contains (kept_rows watch inputs deeper all) o →
         (row : Row) × Contains inputs row × IsRowOrBurial watch inputs row o }
     ensures grammar { (watch : List Watcher) (inputs deeper all : List Row) →
-        IsTrue (are_row_texts inputs) → IsTrue (are_row_texts (kept watch inputs deeper all)) }
+        IsTrue (are_row_texts inputs) → IsTrue (are_row_texts (kept_rows watch inputs deeper all)) }
     ensures in_order { (watch : List Watcher) (inputs deeper all : List Row) →
-        IsTrue (is_ordered inputs) → IsTrue (is_ordered (kept watch inputs deeper all)) }
+        IsTrue (is_ordered inputs) → IsTrue (is_ordered (kept_rows watch inputs deeper all)) }
     ensures upto { (watch : List Watcher) (inputs deeper all : List Row) (last : ℕ) →
-        IsTrue (are_upto last inputs) → IsTrue (are_upto last (kept watch inputs deeper all)) }
+        IsTrue (are_upto last inputs) → IsTrue (are_upto last (kept_rows watch inputs deeper all)) }
     ensures older { (watch : List Watcher) (inputs deeper all above : List Row) →
-        AreNewer above inputs → AreNewer above (kept watch inputs deeper all) }
+        AreNewer above inputs → AreNewer above (kept_rows watch inputs deeper all) }
     ensures newer { (watch : List Watcher) (inputs deeper all below : List Row) →
-        AreNewer inputs below → AreNewer (kept watch inputs deeper all) below }
+        AreNewer inputs below → AreNewer (kept_rows watch inputs deeper all) below }
     ensures apart { (watch : List Watcher) (inputs deeper all others : List Row) →
-        AreApart others → AreApart inputs → ArePlaced others inputs deeper → AreApart (others ++ kept watch inputs deeper all) }
+        AreApart others → AreApart inputs → ArePlaced others inputs deeper → AreApart (others ++ kept_rows watch inputs deeper all) }
 {}
 
 /// Rows above the inputs and deeper ones stand as they must, where the newer have the greater sequences.
@@ -67,7 +67,7 @@ pub fn kept_rows_leave_what_is_clean()
     ensures { (watch : List Watcher) (now : Watcher) (others inputs deeper all : List Row) (v : Watcher) →
         CanReplace watch now others inputs deeper → IsWatched watch now v →
         AreDead watch inputs all (at (others ++ inputs) v.seq) v.moment →
-        clean (at (others ++ kept watch inputs deeper all) v.seq) v.moment ≡ clean (at (others ++ inputs) v.seq) v.moment }
+        clean (at (others ++ kept_rows watch inputs deeper all) v.seq) v.moment ≡ clean (at (others ++ inputs) v.seq) v.moment }
 {}
 
 /// No plan that is made at a moment, or later, brings a life back that is dead from that moment on, where the version is

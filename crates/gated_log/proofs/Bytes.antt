@@ -3,7 +3,7 @@ use Rattle.std.proofs.Common.{◌≡◌, ◌≢◌, ◌⊎◌, inl, inr, ℕ, �
 use Rattle.std.proofs.lemmas.List.{take_at, drop_at, drop_more, drop-drop, length-take-le}
 use Rattle.std.proofs.lemmas.Bool.{cases_eq}
 use Rattle.kv_outside.specs.Files.{HasWritten, Torn}
-use Rattle.kv_outside.specs.ToldLaws.{holds_at, torn_behind}
+use Rattle.kv_outside.specs.ToldLaws.{holds_written, torn_behind}
 use Rattle.kv_base.specs.Fields.{text}
 use Rattle.record_body.specs.Framed.{framed}
 use Rattle.gated_log.specs.Gated.{records, gated, EndsAt, IsShut, IsTried, HasShutGate, HasNoShutGate}
@@ -19,7 +19,7 @@ held_written at bytes d c within holds =
     let front = take at d in
     let rest = drop (length bytes) (drop at d) in
     let long : length front ≡ at = length-take-le at d within in
-    let is : c ≡ front ++ (bytes ++ rest) = holds_at at front (drop at d) bytes d c (sym (take-append-drop at d)) long holds in
+    let is : c ≡ front ++ (bytes ++ rest) = holds_written at front (drop at d) bytes d c (sym (take-append-drop at d)) long holds in
     record { behind = rest; is = ap (λ (l : List ℕ). drop at l) is ∙ drop_at front (bytes ++ rest) at long }
 
 not_open : (gate : ℕ) → gate ≡ 0 → gate ≢ 1
@@ -112,7 +112,7 @@ closed_here end bodies d c ends holds = record {
   gate = 0;
   rest = drop 1 ends.tail;
   closed = not_open 0 refl;
-  is = holds_at end (gated bodies) ends.tail (0 ∷ []) d c ends.is (sym ends.at.place) holds;
+  is = holds_written end (gated bodies) ends.tail (0 ∷ []) d c ends.is (sym ends.at.place) holds;
 }
 
 -- a closed gate that was written is one
@@ -151,7 +151,7 @@ torn_end end bodies d c ends not_shut torn =
 
 pub made_shut : (d c : List ℕ) → d ≡ [] → HasWritten 0 (0 ∷ []) d c → IsShut 0 [] c
 unfolding gated
-made_shut d c empty holds = record { at = end_none; gate = 0; rest = []; closed = not_open 0 refl; is = holds_at 0 [] [] (0 ∷ []) d c empty refl holds }
+made_shut d c empty holds = record { at = end_none; gate = 0; rest = []; closed = not_open 0 refl; is = holds_written 0 [] [] (0 ∷ []) d c empty refl holds }
 
 pub small_write : (d c : List ℕ) → length d ≤ 1 → Torn 0 1 d c → length c ≤ 1
 small_write d c small torn = omega (arith, small, torn.no_longer)

@@ -4,14 +4,14 @@ use Rattle.std.proofs.lemmas.List.{get_or-drop, get_or-take, drop-drop, length-t
 use Rattle.std.proofs.lemmas.Bool.{cases_eq, cases_lt}
 use Rattle.std.proofs.lemmas.Nat.{be_bytes_4}
 use Rattle.kv_base.specs.Fields.{u32, text}
-use Rattle.record_body.specs.Framed.{number_of}
+use Rattle.record_body.specs.Framed.{framed_number}
 use Rattle.gated_log.specs.Gated.{records}
 use Rattle.gated_log.specs.RecordLaws.{records_none, records_shut, records_cut, records_open}
 use Rattle.gated_log.specs.Walk.{StandsAt}
 
 -- the number in a head
-pub number_of-head : (l : List ℕ) → 5 ≤ length l → get_or l 1 0 * 16777216 + get_or l 2 0 * 65536 + get_or l 3 0 * 256 + get_or l 4 0 ≡ number_of (take 4 (drop 1 l))
-unfolding number_of
+pub number_of-head : (l : List ℕ) → 5 ≤ length l → get_or l 1 0 * 16777216 + get_or l 2 0 * 65536 + get_or l 3 0 * 256 + get_or l 4 0 ≡ framed_number (take 4 (drop 1 l))
+unfolding framed_number
 number_of-head (gate ∷ a ∷ b ∷ c ∷ d ∷ rest) long = omega arith
 number_of-head [] long = absurd (omega arith)
 number_of-head (gate ∷ []) long = absurd (omega arith)
@@ -27,18 +27,18 @@ shut_none (gate ∷ rest) long shut = records_shut gate rest shut
 pub short_none : (l : List ℕ) → length l < 5 → records l ≡ []
 short_none [] short = records_none
 short_none (gate ∷ rest) short = elim (cases_eq gate 1) [
-  | inl is_open ↦ ap (λ (g : ℕ). records (g ∷ rest)) is_open ∙ records_cut rest (number_of (take 4 rest)) refl (omega arith)
+  | inl is_open ↦ ap (λ (g : ℕ). records (g ∷ rest)) is_open ∙ records_cut rest (framed_number (take 4 rest)) refl (omega arith)
   | inr shut ↦ records_shut gate rest shut
 ]
 
-pub cut_none : (l : List ℕ) (n : ℕ) → 5 ≤ length l → get_or l 0 0 ≡ 1 → n ≡ number_of (take 4 (drop 1 l)) → length (drop 5 l) < n → records l ≡ []
+pub cut_none : (l : List ℕ) (n : ℕ) → 5 ≤ length l → get_or l 0 0 ≡ 1 → n ≡ framed_number (take 4 (drop 1 l)) → length (drop 5 l) < n → records l ≡ []
 cut_none [] n long is_open number cut = absurd (omega arith)
 cut_none (gate ∷ rest) n long is_open number cut =
     ap (λ (g : ℕ). records (g ∷ rest)) is_open ∙ records_cut rest n (sym number) (omega (arith, length-drop 4 rest))
 
 -- a record, where its gate is open and its body is whole
-number_is : (l : List ℕ) (n : ℕ) → ((i : ℕ) → get_or l i 0 < 256) → 4 ≤ length l → n ≡ number_of (take 4 l) → take 4 l ≡ u32 n
-unfolding number_of u32
+number_is : (l : List ℕ) (n : ℕ) → ((i : ℕ) → get_or l i 0 < 256) → 4 ≤ length l → n ≡ framed_number (take 4 l) → take 4 l ≡ u32 n
+unfolding framed_number u32
 number_is l n fits long number = sym (be_bytes_4 (take 4 l) n (length-take-le 4 l long) byte number)
   where
     byte : (i : ℕ) → get_or (take 4 l) i 0 < 256
@@ -48,7 +48,7 @@ number_is l n fits long number = sym (be_bytes_4 (take 4 l) n (length-take-le 4 
         (cases_lt i 4)
 
 pub stands_at : (file rest body : List ℕ) (place n : ℕ) → ((i : ℕ) → Fits w8 (get_or file i 0)) → rest ≡ drop place file → 5 ≤ length rest → get_or rest 0 0 ≡ 1
-    → n ≡ number_of (take 4 (drop 1 rest)) → n < 2 ^ 32 → n ≤ length (drop 5 rest) → body ≡ take n (drop 5 rest) → StandsAt place (place + 5 + n) body file
+    → n ≡ framed_number (take 4 (drop 1 rest)) → n < 2 ^ 32 → n ≤ length (drop 5 rest) → body ≡ take n (drop 5 rest) → StandsAt place (place + 5 + n) body file
 unfolding text
 stands_at file rest body place n fits is long is_open number limit room is_body =
     let long_body : length body ≡ n = ap length is_body ∙ length-take-le n (drop 5 rest) room in

@@ -4,7 +4,7 @@ use Rattle.std.proofs.lemmas.Bool.{cases_eq}
 use Rattle.kv_base.specs.declared.name.FileName.{FileName}
 use Rattle.kv_outside.specs.Disk.{Disk, NothingNew, Touches, Agrees, CrashLeaves, IsDurable}
 use Rattle.kv_outside.specs.Files.{HasWritten, Torn}
-use Rattle.kv_outside.specs.ToldLaws.{goes_keeps, told_any, told_given, told_leads, holds_at}
+use Rattle.kv_outside.specs.ToldLaws.{goes_keeps, told_any, told_given, told_leads, holds_written}
 use Rattle.kv_outside.specs.RunLaws.{run_nothing, run_then, run_weaken, at_end, agrees_still}
 use Rattle.gated_log.specs.Gated.{records, gated, IsShut, HasRecordsOrNone, HasShutGate, HasNoShutGate}
 use Rattle.gated_log.specs.RecordLaws.{end_none, records_shut, small_records}
@@ -20,7 +20,7 @@ first_shut d gate = record { at = end_none; gate = gate.gate; rest = gate.rest; 
 
 first_closed : (d c : List ℕ) → HasWritten 0 (0 ∷ []) d c → IsShut 0 [] c
 unfolding gated
-first_closed d c holds = record { at = end_none; gate = 0; rest = drop 1 d; closed = not_open; is = holds_at 0 [] d (0 ∷ []) d c refl refl holds }
+first_closed d c holds = record { at = end_none; gate = 0; rest = drop 1 d; closed = not_open; is = holds_written 0 [] d (0 ∷ []) d c refl refl holds }
   where
     not_open : ◌≢◌ {A = ℕ} 0 1
     not_open same = absurd (omega arith)

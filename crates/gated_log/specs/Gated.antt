@@ -1,14 +1,14 @@
 -- Gated files: what bytes stand for, whatever a crash made of them.
 use Rattle.std.specs.Prelude.{◌≡◌, ◌≢◌, ◌⊎◌, ℕ, zero, suc, ◌+◌, ◌<◌, ◌^◌, List, [], ◌∷◌, ◌++◌, length, take, drop, if◌then◌else◌, ◌==◌, ◌&&◌, nat_le}
 use Rattle.kv_base.specs.Fields.{text}
-use Rattle.record_body.specs.Framed.{number_of, framed}
+use Rattle.record_body.specs.Framed.{framed_number, framed}
 
 -- the bodies of the first open records, no more than this number of them
 unfoldable pub open_bodies : ℕ → List ℕ → List (List ℕ)
 open_bodies zero file = []
 open_bodies (suc most) [] = []
 open_bodies (suc most) (gate ∷ rest) =
-    let n = number_of (take 4 rest) in
+    let n = framed_number (take 4 rest) in
     if (gate == 1) && nat_le (4 + n) (length rest) then take n (drop 4 rest) ∷ open_bodies most (drop (4 + n) rest) else []
 
 -- the bodies of the open records from place 0 on: a gate 01, a length, and a body that is whole in the file
@@ -21,13 +21,13 @@ gated [] = []
 gated (body ∷ bodies) = 1 ∷ (text body ++ gated bodies)
 
 -- each of these bodies has at most 2^32 - 1 bytes
-abbrev pub AllFit : List (List ℕ) → Type 0
-AllFit [] = Unit {0}
-AllFit (body ∷ bodies) = (length body < 2 ^ 32) × AllFit bodies
+abbrev pub AllBodiesFit : List (List ℕ) → Type 0
+AllBodiesFit [] = Unit {0}
+AllBodiesFit (body ∷ bodies) = (length body < 2 ^ 32) × AllBodiesFit bodies
 
 -- the place behind these records
 pub record IsEndOfRecords (end : ℕ) (bodies : List (List ℕ)) : Type 0 where
-  pub fits : AllFit bodies
+  pub fits : AllBodiesFit bodies
   pub place : end ≡ length (gated bodies)
 
 -- these records up to this place, and there no open one

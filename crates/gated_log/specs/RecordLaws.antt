@@ -5,9 +5,9 @@ use Rattle.std.proofs.lemmas.Bool.{cases_eq}
 use Rattle.std.proofs.lemmas.Bool.Decides.{nat_tests}
 use Rattle.kv_base.specs.Fields.{u32, text}
 use Rattle.kv_base.specs.FieldLaws.{length-u32, length-text}
-use Rattle.record_body.specs.Framed.{number_of, framed}
+use Rattle.record_body.specs.Framed.{framed_number, framed}
 use Rattle.record_body.specs.FramedLaws.{number_of-u32}
-use Rattle.gated_log.specs.Gated.{open_bodies, records, gated, AllFit, IsEndOfRecords, EndsAt, IsShut, IsTried, HasShutGate, HasRecordsOrOneMore}
+use Rattle.gated_log.specs.Gated.{open_bodies, records, gated, AllBodiesFit, IsEndOfRecords, EndsAt, IsShut, IsTried, HasShutGate, HasRecordsOrOneMore}
 
 -- any number that is not below the file's length serves
 open_bodies_same : (m n : ℕ) (file : List ℕ) → length file ≤ m → length file ≤ n → open_bodies m file ≡ open_bodies n file
@@ -19,7 +19,7 @@ open_bodies_same (suc m) zero [] le_m le_n = refl
 open_bodies_same (suc m) zero (gate ∷ rest) le_m le_n = absurd (omega arith)
 open_bodies_same (suc m) (suc n) [] le_m le_n = refl
 open_bodies_same (suc m) (suc n) (gate ∷ rest) le_m le_n =
-    let k = number_of (take 4 rest) in
+    let k = framed_number (take 4 rest) in
     let again : open_bodies m (drop (4 + k) rest) ≡ open_bodies n (drop (4 + k) rest) =
     open_bodies_same m n (drop (4 + k) rest) (omega (arith, length-drop (4 + k) rest)) (omega (arith, length-drop (4 + k) rest)) in
     rw again refl
@@ -35,7 +35,7 @@ pub records_none : records [] ≡ []
 unfolding records open_bodies
 records_none = refl
 
-open_step : (fuel n : ℕ) (rest body tail : List ℕ) → number_of (take 4 rest) ≡ n → 4 + n ≤ length rest → take n (drop 4 rest) ≡ body → drop (4 + n) rest ≡ tail
+open_step : (fuel n : ℕ) (rest body tail : List ℕ) → framed_number (take 4 rest) ≡ n → 4 + n ≤ length rest → take n (drop 4 rest) ≡ body → drop (4 + n) rest ≡ tail
     → open_bodies (suc fuel) (1 ∷ rest) ≡ body ∷ open_bodies fuel tail
 unfolding open_bodies
 open_step fuel n rest body tail number room is_body is_tail =
@@ -51,14 +51,14 @@ records_open body rest fits =
     let split : all ≡ u32 n ++ (body ++ rest) = append_assoc (u32 n) body rest in
     let head : take 4 all ≡ u32 n = ap (λ (l : List ℕ). take 4 l) split ∙ take_at (u32 n) (body ++ rest) 4 (length-u32 n) in
     let behind : drop 4 all ≡ body ++ rest = ap (λ (l : List ℕ). drop 4 l) split ∙ drop_at (u32 n) (body ++ rest) 4 (length-u32 n) in
-    let number : number_of (take 4 all) ≡ n = ap number_of head ∙ number_of-u32 n fits in
+    let number : framed_number (take 4 all) ≡ n = ap framed_number head ∙ number_of-u32 n fits in
     let long : length all ≡ 4 + n + length rest = omega (arith, ap length split, length-append (u32 n) (body ++ rest), length-u32 n, length-append body rest) in
     open_step (length all) n all body rest number (omega arith) (ap (λ (l : List ℕ). take n l) behind ∙ take_at body rest n refl)
     (sym (drop-drop n 4 all) ∙ ap (λ (l : List ℕ). drop n l) behind ∙ drop_at body rest n refl)
     ∙ ap (λ (bs : List (List ℕ)). body ∷ bs) (open_bodies_same (length all) (length rest) rest (omega arith) (omega arith))
 
 -- open records, and what stands behind them
-pub records-gated : (bodies : List (List ℕ)) (rest : List ℕ) → AllFit bodies → records (gated bodies ++ rest) ≡ bodies ++ records rest
+pub records-gated : (bodies : List (List ℕ)) (rest : List ℕ) → AllBodiesFit bodies → records (gated bodies ++ rest) ≡ bodies ++ records rest
 unfolding gated
 records-gated [] rest fit = refl
 records-gated (body ∷ bodies) rest fit =
@@ -67,7 +67,7 @@ records-gated (body ∷ bodies) rest fit =
     ∙ ap (λ (bs : List (List ℕ)). body ∷ bs) (records-gated bodies rest fit.1)
 
 -- an open record whose body is not whole
-pub records_cut : (rest : List ℕ) (n : ℕ) → number_of (take 4 rest) ≡ n → length rest < 4 + n → records (1 ∷ rest) ≡ []
+pub records_cut : (rest : List ℕ) (n : ℕ) → framed_number (take 4 rest) ≡ n → length rest < 4 + n → records (1 ∷ rest) ≡ []
 unfolding records open_bodies
 records_cut rest n number short =
     let fits : leb (4 + n) (length rest) ≡ false = grind (arith, nat_tests) in
@@ -78,7 +78,7 @@ pub small_records : (file : List ℕ) → length file ≤ 1 → records file ≡
 unfolding records open_bodies
 small_records [] small = refl
 small_records (gate ∷ []) small =
-    let fits : leb (4 + number_of []) 0 ≡ false = grind (arith, nat_tests) in
+    let fits : leb (4 + framed_number []) 0 ≡ false = grind (arith, nat_tests) in
     rw fits (both_false (gate == 1) _)
   where
     both_false : (b : Bool) (x : List (List ℕ)) → (if b && false then x else []) ≡ []
@@ -99,7 +99,7 @@ length-gated-push bodies body =
     let is : gated (bodies ++ body ∷ []) ≡ gated bodies ++ 1 ∷ text body = sym (append-nil (gated (bodies ++ body ∷ []))) ∙ gated-push bodies body [] ∙ ap (λ (l : List ℕ). gated bodies ++ 1 ∷ l) (append-nil (text body)) in
     omega (arith, ap length is, length-append (gated bodies) (1 ∷ text body), length-text body)
 
-AllFit-push : (bodies : List (List ℕ)) (body : List ℕ) → AllFit bodies → length body < 2 ^ 32 → AllFit (bodies ++ body ∷ [])
+AllFit-push : (bodies : List (List ℕ)) (body : List ℕ) → AllBodiesFit bodies → length body < 2 ^ 32 → AllBodiesFit (bodies ++ body ∷ [])
 AllFit-push [] body fit fits = (fits, tt)
 AllFit-push (b ∷ bodies) body fit fits = (fit.0, AllFit-push bodies body fit.1 fits)
 

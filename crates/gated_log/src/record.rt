@@ -1,5 +1,5 @@
 ghost use Rattle.std.specs.Prelude.{◌≡◌, ◌<◌, ◌≤◌, ◌^◌, [], ◌∷◌, length, take, drop, IfSome, IfNone};
-ghost use Rattle.record_body.specs.Framed.{number_of};
+ghost use Rattle.record_body.specs.Framed.{framed_number};
 ghost use Rattle.gated_log.specs.Gated.{records};
 ghost use Rattle.gated_log.specs.Walk.{StandsAt};
 
@@ -20,7 +20,7 @@ const HEAD: usize = 5;
 /// The length in a record's head, behind its gate.
 fn body_length(head: &[u8]) -> usize
     requires { HEAD ≤ length head.now }
-    ensures number { result ≡ number_of (take 4 (drop 1 head.now)) }
+    ensures number { result ≡ framed_number (take 4 (drop 1 head.now)) }
     ensures limit { result < 2 ^ 32 }
 {
     u32::from_be_bytes([head[1], head[2], head[3], head[4]]) as usize

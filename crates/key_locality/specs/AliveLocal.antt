@@ -13,7 +13,7 @@ use Rattle.redis_model.specs.ElsewhereLaws.{apply_elsewhere}
 use Rattle.redis_model.specs.Deadlines.{deadlines}
 use Rattle.key_locality.specs.Agree.{AgreeOn}
 use Rattle.key_locality.specs.Between.{IsNotBetween, FindsTheSame}
-use Rattle.key_locality.specs.Moments.{standing, none_between_itself, standing_later, get-alive, alive-twice, all_front, all_behind, none_between_at, agree_later_moment}
+use Rattle.key_locality.specs.Moments.{standing, none_between_itself, standing_later, get-alive-standing, alive-twice, all_front, all_behind, none_between_at, agree_later_moment}
 use Rattle.key_locality.specs.Local.{apply_replies, apply_agrees, touched_local}
 
 -- ---- keys that a command does not name
@@ -22,8 +22,8 @@ use Rattle.key_locality.specs.Local.{apply_replies, apply_agrees, touched_local}
 pub apply_alive_elsewhere : (m : RedisMap) (t : ℕ) (c : Command) (k : Bytes) → IsFalse (among (keys_of c) k) → get (apply_alive m t c).1 k ≡ get (alive m t) k
 unfolding apply_alive
 apply_alive_elsewhere m t c k other =
-    get-alive (apply (alive m t) t c).1 t k ∙ ap (standing t) (apply_elsewhere (alive m t) t c k other)
-    ∙ sym (get-alive (alive m t) t k) ∙ ap (λ (n : RedisMap). get n k) (alive-twice m t)
+    get-alive-standing (apply (alive m t) t c).1 t k ∙ ap (standing t) (apply_elsewhere (alive m t) t c k other)
+    ∙ sym (get-alive-standing (alive m t) t k) ∙ ap (λ (n : RedisMap). get n k) (alive-twice m t)
 
 -- what a command leaves has not expired
 pub alive-apply_alive : (m : RedisMap) (t : ℕ) (c : Command) → alive (apply_alive m t c).1 t ≡ (apply_alive m t c).1
@@ -48,10 +48,10 @@ module _ (m n : RedisMap) (t u : ℕ) (c : Command) (same : FindsTheSame m n t u
   pub apply_alive_agrees : AgreeOn (keys_of c) (apply_alive m t c).1 (apply_alive n u c).1
   unfolding apply_alive
   apply_alive_agrees k named =
-      get-alive (apply (alive m t) t c).1 t k
+      get-alive-standing (apply (alive m t) t c).1 t k
       ∙ standing_later t u (get (apply (alive m t) t c).1 k) same.later (none_between_at t u (apply (alive m t) t c).1 (keys_of c) (all_behind (IsNotBetween t u) (map (deadline_at (alive m t)) (keys_of c)) _ same.ahead) k named)
       ∙ ap (standing u) (apply_agrees (alive m t) (alive n u) t u c found_agrees same.clock k named)
-      ∙ sym (get-alive (apply (alive n u) u c).1 u k)
+      ∙ sym (get-alive-standing (apply (alive n u) u c).1 u k)
 
   -- both in one
   pub apply_alive_local : ((apply_alive m t c).0 ≡ (apply_alive n u c).0) × AgreeOn (keys_of c) (apply_alive m t c).1 (apply_alive n u c).1

@@ -16,7 +16,7 @@ use Rattle.redis_model.specs.Deadlines.{deadlines, keys_of_each, keys_in}
 use Rattle.redis_model.specs.Machine.{apply_alive, apply_each, fold}
 use Rattle.key_locality.specs.Agree.{AgreeOn, Covers, SameMoment}
 use Rattle.key_locality.specs.Between.{IsNotBetween, FindsTheSame, FindTheSame, deadlines_of_each}
-use Rattle.key_locality.specs.Moments.{standing, get-alive, alive-later, all_front, all_behind}
+use Rattle.key_locality.specs.Moments.{standing, get-alive-standing, alive-later, all_front, all_behind}
 use Rattle.key_locality.specs.Local.{named_or_other}
 use Rattle.key_locality.specs.AliveLocal.{apply_alive_elsewhere, apply_alive_replies, apply_alive_agrees}
 
@@ -34,14 +34,14 @@ covers_behind ks xs ys covers k h = covers k (list_any-append (same k) xs ys ∙
 -- what it leaves unnamed is at a later moment what it was
 pub unnamed_later : (m : RedisMap) (t u : ℕ) (c : Command) (k : Bytes) → t ≤ u → IsFalse (among (keys_of c) k) → get (alive (apply_alive m t c).1 u) k ≡ get (alive m u) k
 unnamed_later m t u c k later other =
-    get-alive (apply_alive m t c).1 u k ∙ ap (standing u) (apply_alive_elsewhere m t c k other)
-    ∙ sym (get-alive (alive m t) u k) ∙ ap (λ (n : RedisMap). get n k) (alive-later m t u later)
+    get-alive-standing (apply_alive m t c).1 u k ∙ ap (standing u) (apply_alive_elsewhere m t c k other)
+    ∙ sym (get-alive-standing (alive m t) u k) ∙ ap (λ (n : RedisMap). get n k) (alive-later m t u later)
 
 -- maps that agree on any keys, the command's own among them, agree on these afterwards
 pub apply_alive_agrees_on : (ks : List Bytes) (m n : RedisMap) (t u : ℕ) (c : Command) → FindsTheSame m n t u c → AgreeOn ks (alive m u) (alive n u) → AgreeOn ks (alive (apply_alive m t c).1 u) (alive (apply_alive n u c).1 u)
 apply_alive_agrees_on ks m n t u c same agree k h =
     named_or_other (among (keys_of c) k) k (keys_of c) (get (alive (apply_alive m t c).1 u) k ≡ get (alive (apply_alive n u c).1 u) k) refl
-    (λ named. get-alive (apply_alive m t c).1 u k ∙ ap (standing u) (apply_alive_agrees m n t u c same k named) ∙ sym (get-alive (apply_alive n u c).1 u k))
+    (λ named. get-alive-standing (apply_alive m t c).1 u k ∙ ap (standing u) (apply_alive_agrees m n t u c same k named) ∙ sym (get-alive-standing (apply_alive n u c).1 u k))
     (λ other. unnamed_later m t u c k same.later other ∙ agree k h ∙ sym (unnamed_later n u u c k (omega arith) other))
 
 -- ---- several commands

@@ -7,7 +7,7 @@ use Rattle.redis_model.specs.declared.reply.Reply.TheVariants as reply
 use Rattle.redis_model.specs.declared.command.Expiry.{Expiry}
 use Rattle.redis_model.specs.Value.{Entry, RedisMap}
 use Rattle.redis_model.specs.Outcome.{number}
-use Rattle.redis_model.specs.Keys.{among, del, exists, word_at, type_of, expire_entry, expire, left, seconds, ttl, p_ttl, persist_entry, persist}
+use Rattle.redis_model.specs.Keys.{among, del, exists, word_at, type_of, expire_entry, expire, left, rounded_seconds, ttl, p_ttl, persist_entry, persist}
 use Rattle.key_locality.specs.Agree.{AgreeOn, Alike}
 use Rattle.key_locality.specs.Alike.{agree_first, agree_later, agree_insert, alike_if}
 use Rattle.key_locality.specs.Strings.{same_has}
@@ -31,7 +31,7 @@ module _ (ks : List Bytes) (m n : RedisMap) (agree : AgreeOn ks m n) (k : Bytes)
   p_ttl_alike t u is = (λ i. reply.Int (left (is i) (here i)), agree)
 
   pub ttl_alike : (t u : ℕ) → t ≡ u → Alike ks (ttl m t k) (ttl n u k)
-  ttl_alike t u is = (λ i. reply.Int (seconds (left (is i) (here i))), agree)
+  ttl_alike t u is = (λ i. reply.Int (rounded_seconds (left (is i) (here i))), agree)
 
   -- PERSIST of the same entry
   persist_entry_alike : (o : Option Entry) → Alike ks (persist_entry m k o) (persist_entry n k o)

@@ -33,11 +33,11 @@ lives_later t u (Some d) le ahead = sym (still_there t u d (nat_lt t d) le ahead
 abbrev pub standing : ℕ → Option Entry → Option Entry
 standing t = kept (λ e. lives t e.deadline)
 
-abbrev pub deadline_in : Option Entry → Option ℕ
-deadline_in = option_and_then (λ e. e.deadline)
+abbrev pub entry_deadline : Option Entry → Option ℕ
+entry_deadline = option_and_then (λ e. e.deadline)
 
 -- an entry whose deadline does not lie in between
-pub standing_later : (t u : ℕ) (o : Option Entry) → t ≤ u → IsNotBetween t u (deadline_in o) → standing t o ≡ standing u o
+pub standing_later : (t u : ℕ) (o : Option Entry) → t ≤ u → IsNotBetween t u (entry_deadline o) → standing t o ≡ standing u o
 standing_later t u None le ahead = refl
 standing_later t u (Some e) le ahead = ap (λ (b : Bool). cond b (Some e) None) (lives_later t u e.deadline le ahead)
 
@@ -53,14 +53,14 @@ standing_twice t u (Some e) le =
 -- ---- a map
 
 -- what is at a key of what has not expired
-pub get-alive : (m : RedisMap) (t : ℕ) (k : Bytes) → get (alive m t) k ≡ standing t (get m k)
+pub get-alive-standing : (m : RedisMap) (t : ℕ) (k : Bytes) → get (alive m t) k ≡ standing t (get m k)
 unfolding alive
-get-alive m t k = get-keep (λ _ e. lives t e.deadline) m k
+get-alive-standing m t k = get-keep (λ _ e. lives t e.deadline) m k
 
 -- what has not expired at a moment is there at a later one if it has not expired then
 pub alive-later : (m : RedisMap) (t u : ℕ) → t ≤ u → alive (alive m t) u ≡ alive m u
 alive-later m t u le =
-    same_map _ _ (λ k. get-alive (alive m t) u k ∙ ap (standing u) (get-alive m t k) ∙ standing_twice t u (get m k) le ∙ sym (get-alive m u k))
+    same_map _ _ (λ k. get-alive-standing (alive m t) u k ∙ ap (standing u) (get-alive-standing m t k) ∙ standing_twice t u (get m k) le ∙ sym (get-alive-standing m u k))
 
 -- and at the same moment nothing changes
 pub alive-twice : (m : RedisMap) (t : ℕ) → alive (alive m t) t ≡ alive m t
@@ -68,7 +68,7 @@ alive-twice m t = alive-later m t t (omega arith)
 
 -- maps that agree on some keys agree on them at a moment, too
 pub agree_alive : (ks : List Bytes) (m n : RedisMap) (t : ℕ) → AgreeOn ks m n → AgreeOn ks (alive m t) (alive n t)
-agree_alive ks m n t agree k h = get-alive m t k ∙ ap (standing t) (agree k h) ∙ sym (get-alive n t k)
+agree_alive ks m n t agree k h = get-alive-standing m t k ∙ ap (standing t) (agree k h) ∙ sym (get-alive-standing n t k)
 
 -- ---- deadlines that do not lie in between
 
@@ -103,6 +103,6 @@ none_between_itself t (Some d ∷ ds) = All-cons (IsNotBetween t t) (Some d) ds 
 -- what has not expired at t has not expired at u either, at keys whose deadlines do not lie in between
 pub agree_later_moment : (ks : List Bytes) (m : RedisMap) (t u : ℕ) → t ≤ u → NoneBetween t u (map (deadline_at (alive m t)) ks) → AgreeOn ks (alive m t) (alive m u)
 agree_later_moment ks m t u le none k h =
-    get-alive m t k ∙ sym (standing_twice t t (get m k) (omega arith)) ∙ ap (standing t) (sym (get-alive m t k))
+    get-alive-standing m t k ∙ sym (standing_twice t t (get m k) (omega arith)) ∙ ap (standing t) (sym (get-alive-standing m t k))
     ∙ standing_later t u (get (alive m t) k) le (none_between_at t u (alive m t) ks none k h)
-    ∙ sym (get-alive (alive m t) u k) ∙ ap (λ (n : RedisMap). get n k) (alive-later m t u le)
+    ∙ sym (get-alive-standing (alive m t) u k) ∙ ap (λ (n : RedisMap). get n k) (alive-later m t u le)

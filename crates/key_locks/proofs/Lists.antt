@@ -3,7 +3,7 @@ use Rattle.std.proofs.Common.{◌≡◌, ◌≢◌, ℕ, zero, suc, ◌+◌, ◌
 use Rattle.std.proofs.lemmas.Bool.{eqb-true}
 use Rattle.std.specs.Prelude.{replicate}
 use Rattle.key_locks.specs.declared.token.Token.{Token}
-use Rattle.key_locks.specs.Tokens.{one_of, times, shares_from, books_from, HaveCounts, HaveCount, one_more_at, raise, raised}
+use Rattle.key_locks.specs.Tokens.{one_of, times, shares_from, books_from, HaveCounts, HaveCount, one_more_at, raise, tokens_raised}
 use Rattle.token_views.specs.Views.{first_token, other_tokens}
 
 pub have-append : (count : ℕ → ℕ) (xs ys : List Token) → HaveCounts count xs → HaveCounts count ys → HaveCounts count (xs ++ ys)
@@ -41,7 +41,7 @@ times-raised true s k (t ∷ ts) = omega (arith, times-raised true s k ts)
 times-raised false s k [] = refl
 times-raised false s k (t ∷ ts) = omega (arith, times-raised false s k ts)
 
-pub times-raised_first : (b : Bool) (s : ℕ) (ts : List Token) → times b s (raised ts) ≡ times b s ts
+pub times-raised_first : (b : Bool) (s : ℕ) (ts : List Token) → times b s (tokens_raised ts) ≡ times b s ts
 times-raised_first true s [] = refl
 times-raised_first true s (t ∷ ts) = omega (arith, times-raised true s t.stripe ts)
 times-raised_first false s [] = refl
@@ -51,7 +51,7 @@ pub have-raised : (count : ℕ → ℕ) (s : ℕ) (ts : List Token) → HaveCoun
 have-raised count s [] h = tt
 have-raised count s (t ∷ ts) h = (ap (one_more_at s t.stripe) h.0, have-raised count s ts h.1)
 
-pub have-raised_first : (count : ℕ → ℕ) (t : Token) (ts : List Token) → HaveCounts count (t ∷ ts) → HaveCounts (λ k. one_more_at t.stripe k (count k)) (raised (t ∷ ts))
+pub have-raised_first : (count : ℕ → ℕ) (t : Token) (ts : List Token) → HaveCounts count (t ∷ ts) → HaveCounts (λ k. one_more_at t.stripe k (count k)) (tokens_raised (t ∷ ts))
 have-raised_first count t ts h = (ap (one_more_at t.stripe t.stripe) h.0, have-raised count t.stripe ts h.1)
 
 -- tokens of other stripes are as they were

@@ -2,7 +2,7 @@
 use Rattle.std.proofs.Common.{◌≡◌, ℕ, zero, suc, ◌+◌, ◌<◌, Bool, true, false, List, [], ◌∷◌, ◌++◌, length, map, set, get_or, drop, eq-eqb, refl, sym, ap, ◌∙◌, subst, arith}
 use Rattle.atomic_table.specs.Table.{Me}
 use Rattle.key_locks.specs.declared.token.Token.{Token}
-use Rattle.key_locks.specs.Tokens.{one_of, share_of, shares_from, books_from, raise, raised, HasPair, MeetsBook}
+use Rattle.key_locks.specs.Tokens.{one_of, share_of, shares_from, books_from, raise, tokens_raised, HasPair, MeetsBook}
 use Rattle.token_views.specs.Views.{other_tokens}
 use Rattle.key_locks.specs.Shares.{tokens_of}
 use Rattle.key_locks.proofs.Lists.{book_has, book_there, share_there, books-raised}
@@ -18,7 +18,7 @@ has_pair true counts s n lt = book_there s 0 counts (omega arith) (omega arith)
 has_pair false counts s n lt = omega (arith, total-append (one_of true s) (shares_from 0 counts) (books_from 0 counts), book_there s 0 counts (omega arith) (omega arith))
 
 pub raised_tokens : (taken : Bool) (counts : List ℕ) (s n : ℕ) → s < length counts → taken ≡ true → get_or counts s 0 ≡ n
-    → raised (share_of s n ∷ tokens_of taken counts) ≡ share_of s (n + 1) ∷ tokens_of taken (set counts s (n + 1))
+    → tokens_raised (share_of s n ∷ tokens_of taken counts) ≡ share_of s (n + 1) ∷ tokens_of taken (set counts s (n + 1))
 raised_tokens true counts s n lt t e =
     let q = eq-eqb s s refl in
     let row : map (raise s) (books_from 0 counts) ≡ books_from 0 (set counts s (n + 1)) = books-raised s 0 s counts (omega arith) lt ∙ ap (λ (m : ℕ). books_from 0 (set counts s (m + 1))) e in
@@ -45,10 +45,10 @@ pub equal_counts : (s n stripe count : ℕ) (xs ys : List ℕ) → s ≡ stripe 
 equal_counts s n stripe count xs ys is same e lt h = (omega arith, sym same ∙ (sym h ∙ (λ i. get_or (e i) (is i) 0)))
 
 -- the store's seat once both are raised and the share is split off
-pub raised_seat : (a b d : Me (Unit {0}) (List Token)) (taken : Bool) (counts : List ℕ) (s n i : ℕ) → a ≡ (share_of s n ∷ tokens_of taken counts, []) → b ≡ (raised a.0, a.1) → d ≡ (other_tokens b.0, b.1) → i ≡ s → s < length counts → taken ≡ true → get_or counts s 0 ≡ n
+pub raised_seat : (a b d : Me (Unit {0}) (List Token)) (taken : Bool) (counts : List ℕ) (s n i : ℕ) → a ≡ (share_of s n ∷ tokens_of taken counts, []) → b ≡ (tokens_raised a.0, a.1) → d ≡ (other_tokens b.0, b.1) → i ≡ s → s < length counts → taken ≡ true → get_or counts s 0 ≡ n
     → d ≡ (tokens_of taken (set counts i (n + 1)), [])
 raised_seat a b d taken counts s n i ea eb ed is lt t h =
-    ed ∙ ((λ k. (other_tokens (eb k).0, (eb k).1)) ∙ ((λ k. (other_tokens (raised (ea k).0), (ea k).1)) ∙ ((λ k. (other_tokens (raised_tokens taken counts s n lt t h k), [])) ∙ (λ k. (tokens_of taken (set counts (sym is k) (n + 1)), [])))))
+    ed ∙ ((λ k. (other_tokens (eb k).0, (eb k).1)) ∙ ((λ k. (other_tokens (tokens_raised (ea k).0), (ea k).1)) ∙ ((λ k. (other_tokens (raised_tokens taken counts s n lt t h k), [])) ∙ (λ k. (tokens_of taken (set counts (sym is k) (n + 1)), [])))))
 
 -- the store's seat once one share more is split off
 pub next_seat : (a b : Me (Unit {0}) (List Token)) (k : ℕ) (ns : List ℕ) (bs : List Token) → a ≡ (shares_from k (drop k ns) ++ bs, []) → b ≡ (other_tokens a.0, a.1) → k < length ns → b ≡ (shares_from (k + 1) (drop (k + 1) ns) ++ bs, [])

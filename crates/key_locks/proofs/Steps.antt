@@ -6,7 +6,7 @@ use lib.ListN.{get_elem?}
 use Rattle.atomic_table.specs.Table.{State, Me, keeps, Allows, Splits, Joins}
 use Rattle.atomic_table.proofs.Lists.{set_else}
 use Rattle.key_locks.specs.declared.token.Token.{Token}
-use Rattle.key_locks.specs.Tokens.{one_of, times, shares_from, books_from, HaveCounts, one_more_at, raised, HasPair, MeetsBook}
+use Rattle.key_locks.specs.Tokens.{one_of, times, shares_from, books_from, HaveCounts, one_more_at, tokens_raised, HasPair, MeetsBook}
 use Rattle.token_views.specs.Views.{first_token, other_tokens}
 use Rattle.key_locks.specs.Rule.{in_all, IsTallied, KeepsTally, all_tokens}
 use Rattle.key_locks.proofs.Lists.{have-append, have-first, have-others, have_count, is_one, times-raised_first, have-raised_first, have-apart, no_books, no_shares, shares_once, books_once, zero_shares, zero_books}
@@ -82,7 +82,7 @@ pair_apart false t ts is pair views once id at k u ne e =
       omega (arith, is_one false t is, total-two (times false s) views k id u (t ∷ ts) ne e at, once false s),
     )
 
-pub raises : (slots id : ℕ) (v : List Token) (c : List (ℕ × Unit {0})) → HasPair v → Allows KeepsTally slots id (v, c) 0 (λ n. n) (λ n w. (w ≡ (raised v, c)) × MeetsBook v)
+pub raises : (slots id : ℕ) (v : List Token) (c : List (ℕ × Unit {0})) → HasPair v → Allows KeepsTally slots id (v, c) 0 (λ n. n) (λ n w. (w ≡ (tokens_raised v, c)) × MeetsBook v)
 raises slots id [] c pair s h homes at fits = (
   [],
   keeps,
@@ -97,14 +97,14 @@ raises slots id [] c pair s h homes at fits = (
 )
 raises slots id (t ∷ ts) c pair s h homes at fits =
     let k = t.stripe in (
-      raised (t ∷ ts),
+      tokens_raised (t ∷ ts),
       keeps,
       tt,
       record {
         word = same_word s.words 0 h.word;
-        once = λ b x. omega (arith, total-set (times b x) s.views id (t ∷ ts) (raised (t ∷ ts)) at, times-raised_first b x (t ∷ ts), h.once b x);
+        once = λ b x. omega (arith, total-set (times b x) s.views id (t ∷ ts) (tokens_raised (t ∷ ts)) at, times-raised_first b x (t ∷ ts), h.once b x);
         count = λ x. one_more_at k x (h.count x);
-        equal = each_set (HaveCounts (λ x. one_more_at k x (h.count x))) s.views id (raised (t ∷ ts))
+        equal = each_set (HaveCounts (λ x. one_more_at k x (h.count x))) s.views id (tokens_raised (t ∷ ts))
             (λ j u ne d. let z = pair_apart t.is_book t ts refl pair s.views h.once id at j u ne d in have-apart h.count k u z.0 z.1 (h.equal j u d))
             (have-raised_first h.count t ts (h.equal id (t ∷ ts) at));
       },

@@ -4,7 +4,7 @@ use mathlib.Core.Option.{some}
 use lib.ListN.{get_elem?}
 use Rattle.atomic_table.specs.Table.{State, Step, Me}
 use Rattle.key_locks.specs.declared.token.Token.{Token}
-use Rattle.key_locks.specs.Tokens.{shares_from, books_from, times, HaveCounts, MeetsBook, raised}
+use Rattle.key_locks.specs.Tokens.{shares_from, books_from, times, HaveCounts, MeetsBook, tokens_raised}
 use Rattle.token_views.specs.Views.{total}
 
 -- how many books, or shares, of one stripe stand in all views
@@ -29,4 +29,4 @@ abbrev pub Compares : Step (Unit {0}) → Me (Unit {0}) (List Token) → ℕ →
 Compares s v found w = (w ≡ v) × MeetsBook v.0
 
 abbrev pub Raises : Step (Unit {0}) → Me (Unit {0}) (List Token) → ℕ → Me (Unit {0}) (List Token) → Type 0
-Raises s v found w = (w ≡ (raised v.0, v.1)) × MeetsBook v.0
+Raises s v found w = (w ≡ (tokens_raised v.0, v.1)) × MeetsBook v.0

@@ -45,9 +45,9 @@ abbrev pub raise : ℕ → Token → Token
 raise stripe t = record { is_book = t.is_book; stripe = t.stripe; count = one_more_at stripe t.stripe t.count }
 
 -- the tokens, with one more at each of the first one's stripe
-abbrev pub raised : List Token → List Token
-raised [] = []
-raised (t ∷ ts) = raise t.stripe t ∷ map (raise t.stripe) ts
+abbrev pub tokens_raised : List Token → List Token
+tokens_raised [] = []
+tokens_raised (t ∷ ts) = raise t.stripe t ∷ map (raise t.stripe) ts
 
 -- the other side of the first token's stripe stands among the others
 abbrev pub HasPair : List Token → Type 0

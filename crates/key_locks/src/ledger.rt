@@ -1,6 +1,6 @@
 //! The steps of the tally's table.
 ghost use Rattle.std.specs.Prelude.{◌≡◌, ◌<◌, ◌∷◌, ◌++◌, [], IfOk};
-ghost use Rattle.key_locks.specs.Tokens.{raised, HasPair, MeetsBook};
+ghost use Rattle.key_locks.specs.Tokens.{tokens_raised, HasPair, MeetsBook};
 ghost use Rattle.token_views.specs.Views.{first_token, other_tokens};
 ghost use Rattle.key_locks.specs.Rule.{all_tokens};
 
@@ -56,7 +56,7 @@ pub(crate) fn raise(table: &TallyTable, seat: &mut TallySeat)
         × (0 < table.now.shared.table_id.words) }
     requires pair { HasPair seat.old.me.0 }
     ensures table { seat.new.table_id ≡ seat.old.table_id }
-    ensures tokens { seat.new.me ≡ (raised seat.old.me.0, seat.old.me.1) }
+    ensures tokens { seat.new.me ≡ (tokens_raised seat.old.me.0, seat.old.me.1) }
     ensures meets { MeetsBook seat.old.me.0 }
 {
     table.shared.load::<Raise>(seat, 0);

@@ -13,6 +13,18 @@ pub data MetaValue : Type 0 where
   LifeValue : Kind → ℕ → ℕ → ℕ → MetaValue
   ListValue : ℕ → ℕ → ℕ → ℕ → MetaValue
 
+-- the deadline in metadata, where 0 stands for none
+abbrev pub expire_of : MetaValue → ℕ
+expire_of (StringValue expire payload) = expire
+expire_of (LifeValue kind expire version size) = expire
+expire_of (ListValue expire version head tail) = expire
+
+-- the version of a collection's life; a string has none
+abbrev pub version_of : MetaValue → Option ℕ
+version_of (StringValue expire payload) = None
+version_of (LifeValue kind expire version size) = Some version
+version_of (ListValue expire version head tail) = Some version
+
 -- ---- the limits
 
 abbrev pub is_deadline : ℕ → Bool

@@ -9,8 +9,8 @@ use Rattle.clap.specs.Faults.{check_fault, defaults_fault, entered_fault, level_
 use Rattle.clap.proofs.FaultLemmas.{stopped_fault}
 use Rattle.clap.proofs.WalkLemmas.{both, walk_stopped}
 use Rattle.kv_base.specs.Map.{Bytes}
-use Rattle.kv_conf.specs.CommandLine.{Given, asked, given, load, only_path, told}
-use Rattle.kv_conf.specs.Parsed.{answer, found, is_offered, kvr, parsed, path_of, told_by, unless}
+use Rattle.kv_conf.specs.CommandLine.{Given, asked_line, given, load, only_path, told_words}
+use Rattle.kv_conf.specs.Parsed.{answer, found, is_offered, kvr_app, parsed, path_of, told_by, unless}
 use Rattle.kv_conf.specs.declared.words.Words.{Words}
 use Rattle.kv_conf.specs.declared.words.Words.TheVariants as words
 use Rattle.kv_conf.proofs.Steps.{View, leaf, plain_from, same_text, unless_none}
@@ -40,15 +40,15 @@ by_program P script drill load serve other x = by_script (bytes_eq (codes "scrip
 -- ---- the first word
 
 abbrev top : Shape
-top = (built kvr).top
+top = (built kvr_app).top
 
 -- what a walk that has read the first word comes to
 abbrev line_of : Text → List Text → Walk → Option (Text × List Row)
 line_of name rest w =
     let first = record (walk_from nothing_held) { stopped = Some (name, []) } in
-    unless (or_else (or_else (turn_fault top (names_of (built kvr)) (walk_from nothing_held) name) (walk_fault top (names_of (built kvr)) first rest))
-    (or_else (entered_fault (built kvr) w.stopped) (or_else (settle_fault [] false w.held) (or_else (defaults_fault (settled [] w.held).rows []) (check_fault top (finished [] w.held) (is_some (entered (built kvr) w.stopped)))))))
-    (entered (built kvr) w.stopped)
+    unless (or_else (or_else (turn_fault top (names_of (built kvr_app)) (walk_from nothing_held) name) (walk_fault top (names_of (built kvr_app)) first rest))
+    (or_else (entered_fault (built kvr_app) w.stopped) (or_else (settle_fault [] false w.held) (or_else (defaults_fault (settled [] w.held).rows []) (check_fault top (finished [] w.held) (is_some (entered (built kvr_app) w.stopped)))))))
+    (entered (built kvr_app) w.stopped)
 
 abbrev found_as : Text → List Text → List Text → Option (Text × List Row)
 found_as name options rest = unless (level_fault (leaf name options) [] nothing_held rest false []) (Some (name, rows_after (leaf name options).rules [] rest))
@@ -60,11 +60,11 @@ closed k l x e = ap (λ (k : Kinds). unless (or_else (or_else [] k) (or_else l [
     go [] = refl
     go (a ∷ ks) = refl
 
-no_walk : (name : Text) (rest : List Text) → walk_fault top (names_of (built kvr)) (record (walk_from nothing_held) { stopped = Some (name, []) }) rest ≡ []
-no_walk name rest = stopped_fault top (names_of (built kvr)) (walk_from nothing_held) (name, []) rest
+no_walk : (name : Text) (rest : List Text) → walk_fault top (names_of (built kvr_app)) (record (walk_from nothing_held) { stopped = Some (name, []) }) rest ≡ []
+no_walk name rest = stopped_fault top (names_of (built kvr_app)) (walk_from nothing_held) (name, []) rest
 
-ends : (name : Text) (rest : List Text) → line_of name rest (fold (walked [] (names_of (built kvr))) (record (walk_from nothing_held) { stopped = Some (name, []) }) rest) ≡ line_of name rest (record (walk_from nothing_held) { stopped = Some (name, rest) })
-ends name rest = ap (line_of name rest) (sym (walk_stopped [] (names_of (built kvr)) (walk_from nothing_held) name [] rest))
+ends : (name : Text) (rest : List Text) → line_of name rest (fold (walked [] (names_of (built kvr_app))) (record (walk_from nothing_held) { stopped = Some (name, []) }) rest) ≡ line_of name rest (record (walk_from nothing_held) { stopped = Some (name, rest) })
+ends name rest = ap (line_of name rest) (sym (walk_stopped [] (names_of (built kvr_app)) (walk_from nothing_held) name [] rest))
 
 script_found : (rest : List Text) → parsed (codes "script" ∷ rest) ≡ found_as (codes "script") (codes "dir" ∷ []) rest
 unfolding walked walk_fault defaults_fault
@@ -99,7 +99,7 @@ map_then w n (Some rows) = refl
 
 -- the program's grammar is that of the rows which clap keeps
 abbrev Reads : Text → List Text → Type 0
-Reads name options = (os : List Given) → told name os ≡ option_and_then (told_by name) (keep name options [] os)
+Reads name options = (os : List Given) → told_words name os ≡ option_and_then (told_by name) (keep name options [] os)
 
 path_reads : (name n : Text) (w : Bytes → Words) (os : List Given) → option_map w (only_path (45 ∷ 45 ∷ n) os) ≡ option_and_then (λ rows. option_map w (path_of n rows)) (keep name (n ∷ []) [] os)
 path_reads name n w os = ap (option_map w) (only_reads name n os) ∙ map_then w n (keep name (n ∷ []) [] os)
@@ -116,27 +116,27 @@ load_told os = load_reads (codes "load") os
 serve_reads : Reads (codes "serve") (codes "conf" ∷ [])
 serve_reads os = path_reads (codes "serve") (codes "conf") words.Serve os
 
-line_reads : (name : Text) (options rest : List Text) → Reads name options → parsed (name ∷ rest) ≡ found_as name options rest → list_all is_offered rest ≡ true → asked (name ∷ rest) ≡ option_and_then answer (parsed (name ∷ rest))
+line_reads : (name : Text) (options rest : List Text) → Reads name options → parsed (name ∷ rest) ≡ found_as name options rest → list_all is_offered rest ≡ true → asked_line (name ∷ rest) ≡ option_and_then answer (parsed (name ∷ rest))
 line_reads name options rest reads found o =
-    and_then_by (told name) (told_by name) (keep name options []) reads (given rest)
+    and_then_by (told_words name) (told_by name) (keep name options []) reads (given rest)
     ∙ ap (option_and_then (told_by name)) (sym (walks name options rest o []))
     ∙ sym (and_unless answer name (level_fault (leaf name options) [] nothing_held rest false []) (rows_after (leaf name options).rules [] rest))
     ∙ ap (option_and_then answer) (sym found)
 
-line_refused : (name : Text) (options rest : List Text) → Reads name options → list_any (λ m. bytes_eq (45 ∷ 45 ∷ m) (45 ∷ 45 ∷ [])) options ≡ false → list_all is_offered rest ≡ false → asked (name ∷ rest) ≡ None
+line_refused : (name : Text) (options rest : List Text) → Reads name options → list_any (λ m. bytes_eq (45 ∷ 45 ∷ m) (45 ∷ 45 ∷ [])) options ≡ false → list_all is_offered rest ≡ false → asked_line (name ∷ rest) ≡ None
 line_refused name options rest reads none o =
-    and_then_by (told name) (told_by name) (keep name options []) reads (given rest)
+    and_then_by (told_words name) (told_by name) (keep name options []) reads (given rest)
     ∙ ap (option_and_then (told_by name)) (unoffered name options none rest o [])
 
 -- ---- a line of no program
 
-untold : (x : Bytes) (rest : List Bytes) → bytes_eq (codes "script") x ≡ false → bytes_eq (codes "drill") x ≡ false → bytes_eq (codes "load") x ≡ false → bytes_eq (codes "serve") x ≡ false → asked (x ∷ rest) ≡ None
+untold : (x : Bytes) (rest : List Bytes) → bytes_eq (codes "script") x ≡ false → bytes_eq (codes "drill") x ≡ false → bytes_eq (codes "load") x ≡ false → bytes_eq (codes "serve") x ≡ false → asked_line (x ∷ rest) ≡ None
 untold x rest s d l v = go (given rest)
   where
-    no_words : (os : List Given) → told x os ≡ None
+    no_words : (os : List Given) → told_words x os ≡ None
     no_words os = rw (flip x (codes "script") ∙ s, flip x (codes "drill") ∙ d, flip x (codes "load") ∙ l, flip x (codes "serve") ∙ v) refl
 
-    go : (g : Option (List Given)) → option_and_then (told x) g ≡ None
+    go : (g : Option (List Given)) → option_and_then (told_words x) g ≡ None
     go None = refl
     go (Some os) = no_words os
 
@@ -157,19 +157,19 @@ fails_first [] k l y h = h (or_else k l)
 fails_first (a ∷ ks) k l y h = refl
 
 no_program : (x : Bytes) → bytes_eq (codes "script") x ≡ false → bytes_eq (codes "drill") x ≡ false → bytes_eq (codes "load") x ≡ false → bytes_eq (codes "serve") x ≡ false
-    → option_map (λ (s : Text × List Text). s.0) (find (answers_to x) (names_of (built kvr))) ≡ None
+    → option_map (λ (s : Text × List Text). s.0) (find (answers_to x) (names_of (built kvr_app))) ≡ None
 no_program x s d l v = rw (s, d, l, v) refl
 
 unfound : (x : Bytes) (rest : List Bytes) → View x → bytes_eq (codes "script") x ≡ false → bytes_eq (codes "drill") x ≡ false → bytes_eq (codes "load") x ≡ false → bytes_eq (codes "serve") x ≡ false → parsed (x ∷ rest) ≡ None
 unfolding walk_fault
 unfound x rest view s d l v =
-    fails_first (turn_fault top (names_of (built kvr)) (walk_from nothing_held) x) _ _ (subcommand_of kvr (x ∷ rest))
-    (λ k. ap (λ (n : Option Text). unless (or_else (turn_of x n) k) (subcommand_of kvr (x ∷ rest))) (no_program x s d l v) ∙ turn_fails x view k (subcommand_of kvr (x ∷ rest)))
+    fails_first (turn_fault top (names_of (built kvr_app)) (walk_from nothing_held) x) _ _ (subcommand_of kvr_app (x ∷ rest))
+    (λ k. ap (λ (n : Option Text). unless (or_else (turn_of x n) k) (subcommand_of kvr_app (x ∷ rest))) (no_program x s d l v) ∙ turn_fails x view k (subcommand_of kvr_app (x ∷ rest)))
 
 -- ---- any line
 
 abbrev Asks : Bytes → List Bytes → Type 0
-Asks x rest = asked (x ∷ rest) ≡ option_and_then answer (parsed (x ∷ rest))
+Asks x rest = asked_line (x ∷ rest) ≡ option_and_then answer (parsed (x ∷ rest))
 
 program_reads : (rest : List Bytes) → list_all is_offered rest ≡ true → (x : Bytes) → is_offered x ≡ true → Asks x rest
 program_reads rest o = by_program (λ (x : Bytes). is_offered x ≡ true → Asks x rest)
@@ -180,12 +180,12 @@ program_reads rest o = by_program (λ (x : Bytes). is_offered x ≡ true → Ask
     (λ x s d l v p. untold x rest s d l v ∙ sym (ap (option_and_then answer) (unfound x rest (view x p) s d l v)))
 
 -- where clap may see the words, a line asks for what clap finds in it
-pub line : (words : List Bytes) → list_all is_offered words ≡ true → asked words ≡ found words
+pub line : (words : List Bytes) → list_all is_offered words ≡ true → asked_line words ≡ found words
 line [] o = sym (ap (option_and_then answer) (unless_none _))
 line (x ∷ rest) o = program_reads rest (both _ _ o).1 x (both _ _ o).0
 
-program_refused : (rest : List Bytes) (x : Bytes) → (is_offered x && list_all is_offered rest) ≡ false → asked (x ∷ rest) ≡ None
-program_refused rest = by_program (λ (x : Bytes). (is_offered x && list_all is_offered rest) ≡ false → asked (x ∷ rest) ≡ None)
+program_refused : (rest : List Bytes) (x : Bytes) → (is_offered x && list_all is_offered rest) ≡ false → asked_line (x ∷ rest) ≡ None
+program_refused rest = by_program (λ (x : Bytes). (is_offered x && list_all is_offered rest) ≡ false → asked_line (x ∷ rest) ≡ None)
     (λ o. line_refused (codes "script") (codes "dir" ∷ []) rest script_reads refl o)
     (λ o. line_refused (codes "drill") (codes "dir" ∷ []) rest drill_reads refl o)
     (λ o. line_refused (codes "load") load_options rest load_told refl o)
@@ -193,6 +193,6 @@ program_refused rest = by_program (λ (x : Bytes). (is_offered x && list_all is_
     (λ x s d l v o. untold x rest s d l v)
 
 -- and others ask for nothing
-pub line_unoffered : (words : List Bytes) → list_all is_offered words ≡ false → asked words ≡ None
+pub line_unoffered : (words : List Bytes) → list_all is_offered words ≡ false → asked_line words ≡ None
 line_unoffered [] o = refl
 line_unoffered (x ∷ rest) o = program_refused rest x o

@@ -79,8 +79,8 @@ abbrev pub load : List Given → Option Words
 load options = option_and_then load_among (three options)
 
 -- what the program of this name is told by its options
-abbrev pub told : Bytes → List Given → Option Words
-told program options =
+abbrev pub told_words : Bytes → List Given → Option Words
+told_words program options =
     if bytes_eq program (codes "script") then option_map words.Script (only_path (codes "--dir") options)
     else if bytes_eq program (codes "drill") then option_map words.Drill (only_path (codes "--dir") options)
     else if bytes_eq program (codes "load") then load options
@@ -88,6 +88,6 @@ told program options =
     else None
 
 -- What a command line asks for, if it is on the grammar: a program, and then each of its options exactly once.
-abbrev pub asked : List Bytes → Option Words
-asked [] = None
-asked (program ∷ rest) = option_and_then (told program) (given rest)
+abbrev pub asked_line : List Bytes → Option Words
+asked_line [] = None
+asked_line (program ∷ rest) = option_and_then (told_words program) (given rest)

@@ -35,8 +35,8 @@ bare = record {
 abbrev pub with_program : App → App → App
 with_program above sub = with_subcommand above sub.top
 
-abbrev pub kvr : App
-kvr = with_program (with_program (with_program (with_program bare
+abbrev pub kvr_app : App
+kvr_app = with_program (with_program (with_program (with_program bare
     (program (codes "script") (codes "dir")))
     (program (codes "drill") (codes "dir")))
     load_program)
@@ -51,7 +51,7 @@ unless (kind ∷ kinds) found = None
 
 -- the program that clap finds in the words, and the values of its options
 abbrev pub parsed : List Bytes → Option (Text × List Row)
-parsed line = unless (fault_of kvr line) (subcommand_of kvr line)
+parsed line = unless (fault_of kvr_app line) (subcommand_of kvr_app line)
 
 -- ---- what a program is told by the values of its options
 

@@ -4,7 +4,7 @@ ghost use Rattle.std.specs.Prelude.{◌≡◌, ◌≢◌, IfOk, IsErrOf, None, f
 ghost use Rattle.clap.specs.Words.{app_of, found_of, kind_of, rows_of, rule_of, subcommand_rows_of};
 ghost use Rattle.clap.specs.declared.builder.command.Command.TheViews.{out-Command};
 ghost use Rattle.clap.specs.declared.error.kind.ErrorKind.TheVariants.{OutOfMemory};
-ghost use Rattle.kv_conf.specs.Parsed.{bare as bare_app, kvr, load_program, option_rule, parsed, program as program_in};
+ghost use Rattle.kv_conf.specs.Parsed.{bare as bare_app, kvr_app, load_program, option_rule, parsed, program as program_in};
 
 use crate::words::WordsFault;
 use clap::error::ErrorKind;
@@ -49,7 +49,7 @@ fn bare<'a>(alloc: Global) -> Command<'a>
 
 /// The programs and their options.
 fn command<'a>(alloc: Global) -> Result<Command<'a>, AllocError>
-    ensures { IfOk result (λ c. app_of c ≡ kvr) }
+    ensures { IfOk result (λ c. app_of c ≡ kvr_app) }
 {
     let script = program(alloc, "script", "dir")?;
     let drill = program(alloc, "drill", "dir")?;

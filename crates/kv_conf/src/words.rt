@@ -2,7 +2,7 @@
 
 ghost use Rattle.std.specs.Prelude.{◌≡◌, Some, None, IfOk, IsErrOf, map, string_bytes};
 ghost use Rattle.std.specs.List.{list_all};
-ghost use Rattle.kv_conf.specs.CommandLine.{asked as asked_by};
+ghost use Rattle.kv_conf.specs.CommandLine.{asked_line as asked_by};
 ghost use Rattle.kv_conf.specs.Parsed.{found as found_in, is_offered as is_offered_word};
 
 use crate::command::{found, parse};

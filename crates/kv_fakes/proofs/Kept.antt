@@ -8,23 +8,23 @@ use Rattle.kv_fakes.specs.declared.file.File.{File}
 use Rattle.kv_fakes.specs.declared.past.Change.{Change}
 use Rattle.kv_fakes.specs.declared.past.ChangeKind.{ChangeKind}
 use Rattle.kv_fakes.specs.declared.past.ChangeKind.TheVariants.{Placed}
-use Rattle.kv_fakes.specs.Past.{after, own_or, added, read_after}
+use Rattle.kv_fakes.specs.Past.{after_change, own_or, with_change, read_after}
 use Rattle.kv_fakes.specs.Content.{content, SameContent, Rewrites, Presents}
 use Rattle.kv_fakes.specs.Crash.{draw, reached, sound, spoilt, torn_bytes, is_settled, left_of, left_after}
 use Rattle.kv_fakes.proofs.Files.{rewrites_same, content_push}
 use Rattle.kv_fakes.proofs.Pushed.{read-push}
 
-pub presents_added : (files new_files : List File) (changes new : List Change) (name : FileName) (kind : ChangeKind) → Presents files changes → Rewrites files new_files name (after kind) → new ≡ added changes name kind → Presents new_files new
+pub presents_added : (files new_files : List File) (changes new : List Change) (name : FileName) (kind : ChangeKind) → Presents files changes → Rewrites files new_files name (after_change kind) → new ≡ with_change changes name kind → Presents new_files new
 presents_added files new_files changes new name kind was made is = record {
   each = λ other.
       made.each other
-      ∙ ap (λ (l : List ℕ). own_or (same_name name other) (after kind l) l) (was.each other)
+      ∙ ap (λ (l : List ℕ). own_or (same_name name other) (after_change kind l) l) (was.each other)
       ∙ sym (ap (λ (l : List Change). read_after l other []) is ∙ read-push changes (record { name = name; kind = kind }) other []);
 }
 
-pub presents_noted : (files : List File) (changes new : List Change) (name : FileName) (kind : ChangeKind) → Presents files changes → ((old : List ℕ) → after kind old ≡ old) → new ≡ added changes name kind → Presents files new
+pub presents_noted : (files : List File) (changes new : List Change) (name : FileName) (kind : ChangeKind) → Presents files changes → ((old : List ℕ) → after_change kind old ≡ old) → new ≡ with_change changes name kind → Presents files new
 presents_noted files changes new name kind was kept is =
-    presents_added files files changes new name kind was (rewrites_same files files name (after kind) kept (record { each = λ other. refl })) is
+    presents_added files files changes new name kind was (rewrites_same files files name (after_change kind) kept (record { each = λ other. refl })) is
 
 -- nothing was changed after all
 pub presents_still : (files new_files : List File) (changes new : List Change) → Presents files changes → SameContent files new_files → new ≡ changes → Presents new_files new
@@ -63,7 +63,7 @@ leave_step changes later at change number next choice settled files new split se
     ∙ so_far
 
 -- the last of the files that a crash leaves is put there first
-pub placed_step : (files rest : List File) (file : File) (record_now new : List Change) (name : FileName) (left : List ℕ) → files ≡ rest ++ file ∷ [] → new ≡ added record_now file.name (Placed file.bytes.items)
+pub placed_step : (files rest : List File) (file : File) (record_now new : List Change) (name : FileName) (left : List ℕ) → files ≡ rest ++ file ∷ [] → new ≡ with_change record_now file.name (Placed file.bytes.items)
     → content files name (read_after record_now name []) ≡ left → content rest name (read_after new name []) ≡ left
 placed_step files rest file record_now new name left popped is so_far =
     ap (λ (l : List Change). content rest name (read_after l name [])) is

@@ -12,9 +12,9 @@ content [] name default = default
 content (file ∷ files) name default = own_or (same_name file.name name) file.bytes.items (content files name default)
 
 -- its place, and the number of files where it is not there
-abbrev pub place : List File → FileName → ℕ
-place [] name = 0
-place (file ∷ files) name = own_or (same_name file.name name) 0 (suc (place files name))
+abbrev pub file_place : List File → FileName → ℕ
+file_place [] name = 0
+file_place (file ∷ files) name = own_or (same_name file.name name) 0 (suc (file_place files name))
 
 -- each file reads as it did
 pub record SameContent (old new : List File) : Type 0 where

@@ -2,7 +2,7 @@
 use Rattle.std.specs.Prelude.{ℕ, ◌+◌, ◌*◌, ◌/◌, ◌%◌, ◌^◌, zero, suc, Bool, true, false, ◌||◌, ◌&&◌, List, [], ◌∷◌, ◌++◌, length, take, drop, map}
 use Rattle.kv_base.specs.declared.name.FileName.{FileName}
 use Rattle.kv_base.specs.Name.{same_name}
-use Rattle.kv_fakes.specs.Past.{written, after, own_or}
+use Rattle.kv_fakes.specs.Past.{overwritten, after_change, own_or}
 use Rattle.kv_fakes.specs.declared.fate.Fate.{Fate}
 use Rattle.kv_fakes.specs.declared.fate.Fate.TheVariants.{Whole, Missing, Torn}
 use Rattle.kv_fakes.specs.declared.past.Change.{Change}
@@ -42,9 +42,9 @@ torn_bytes number bytes =
     take front some ++ map (spoilt number) (drop front some)
 
 abbrev pub struck_write : Fate → ℕ → ℕ → List ℕ → List ℕ → List ℕ
-struck_write Whole number at bytes old = written at bytes old
+struck_write Whole number at bytes old = overwritten at bytes old
 struck_write Missing number at bytes old = old
-struck_write Torn number at bytes old = written at (torn_bytes number bytes) old
+struck_write Torn number at bytes old = overwritten at (torn_bytes number bytes) old
 
 -- a cut or a purge is carried out or not
 abbrev pub struck_or : {X : Type 0} → Fate → X → X → X
@@ -75,7 +75,7 @@ is_settled (change ∷ changes) name = (same_name change.name name && settles ch
 
 -- a change that was made durable is there, and of another what the number leaves of it
 abbrev pub left_of : Bool → ℕ → ChangeKind → List ℕ → List ℕ
-left_of true number kind old = after kind old
+left_of true number kind old = after_change kind old
 left_of false number kind old = struck number kind old
 
 -- What a crash leaves of a file, which had these bytes before the changes. A number is drawn for each change.

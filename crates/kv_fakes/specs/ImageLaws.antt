@@ -12,7 +12,7 @@ use Rattle.kv_fakes.specs.declared.fate.Fate.TheVariants as fates
 use Rattle.kv_fakes.specs.declared.past.Change.{Change}
 use Rattle.kv_fakes.specs.declared.past.ChangeKind.{ChangeKind}
 use Rattle.kv_fakes.specs.declared.past.ChangeKind.TheVariants.{Written, Cut, Synced, Gone, Placed}
-use Rattle.kv_fakes.specs.Past.{written, after, own_or, read_after, ImageAfter, ImageIf, images_after, NotThere, disk_of}
+use Rattle.kv_fakes.specs.Past.{overwritten, after_change, own_or, read_after, ImageAfter, ImageIf, images_after, NotThere, disk_of}
 use Rattle.kv_fakes.specs.Crash.{draw, fate, reached, sound, spoilt, torn_bytes, struck_write, struck_or, struck, settles, is_settled, left_of, left_after}
 
 -- ---- the steps of a file
@@ -24,7 +24,7 @@ written_if : (b : Bool) (at : ℕ) (bytes old : List ℕ) → leb at (length old
 written_if true at bytes old is = torn_of_holds at bytes old _ (grind (arith, nat_tests)) refl
 written_if false at bytes old is = torn_self at (length bytes) old
 
-pub written_torn : (at : ℕ) (bytes old : List ℕ) → Torn at (length bytes) old (written at bytes old)
+pub written_torn : (at : ℕ) (bytes old : List ℕ) → Torn at (length bytes) old (overwritten at bytes old)
 written_torn at bytes old = written_if (leb at (length old)) at bytes old refl
 
 -- a torn write of fewer bytes is one of more
@@ -38,8 +38,8 @@ torn_wider at m n old new le torn =
       no_longer = omega (arith, torn.no_longer);
     }
 
-written_within : (at n : ℕ) (bytes old : List ℕ) → length bytes ≤ n → Torn at n old (written at bytes old)
-written_within at n bytes old le = torn_wider at (length bytes) n old (written at bytes old) le (written_torn at bytes old)
+written_within : (at n : ℕ) (bytes old : List ℕ) → length bytes ≤ n → Torn at n old (overwritten at bytes old)
+written_within at n bytes old le = torn_wider at (length bytes) n old (overwritten at bytes old) le (written_torn at bytes old)
 
 shortened_cut : (len : ℕ) (old : List ℕ) → Shortened len old (take len old)
 shortened_cut len old = record { before = take-take len len old (omega arith); no_shorter = omega (arith, length-take len old); no_longer = omega (arith, length-take len old) }
@@ -49,7 +49,7 @@ shortened_self len old = record { before = refl; no_shorter = omega arith; no_lo
 
 -- ---- the file as it reads
 
-image_holds : (kind : ChangeKind) (now : List ℕ) (Image : List ℕ → Type 0) → Image now → ImageAfter kind now Image (after kind now)
+image_holds : (kind : ChangeKind) (now : List ℕ) (Image : List ℕ → Type 0) → Image now → ImageAfter kind now Image (after_change kind now)
 image_holds (Written at bytes true) now Image was = (now, was, written_torn at bytes now)
 image_holds (Written at bytes false) now Image was = (now, was, torn_self at (length bytes) now)
 image_holds (Cut len true) now Image was = (now, was, shortened_cut len now)
@@ -58,7 +58,7 @@ image_holds Synced now Image was = refl
 image_holds Gone now Image was = (now, was, inr refl)
 image_holds (Placed bytes) now Image was = refl
 
-image_if : (same : Bool) (kind : ChangeKind) (now : List ℕ) (Image : List ℕ → Type 0) → Image now → ImageIf same kind now Image (own_or same (after kind now) now)
+image_if : (same : Bool) (kind : ChangeKind) (now : List ℕ) (Image : List ℕ → Type 0) → Image now → ImageIf same kind now Image (own_or same (after_change kind now) now)
 image_if true kind now Image was = image_holds kind now Image was
 image_if false kind now Image was = was
 
@@ -66,7 +66,7 @@ pub read_is_image : (changes : List Change) (name : FileName) (now : List ℕ) (
 read_is_image [] name now Image was = was
 read_is_image (change ∷ changes) name now Image was =
     let same = same_name change.name name in
-    read_is_image changes name (own_or same (after change.kind now) now) (ImageIf same change.kind now Image) (image_if same change.kind now Image was)
+    read_is_image changes name (own_or same (after_change change.kind now) now) (ImageIf same change.kind now Image) (image_if same change.kind now Image was)
 
 -- the images now, with and without the count of the moments
 pub image_now : (changes : List Change) (name : FileName) (c : List ℕ) → images_after changes name [] NotThere c → (disk_of changes).images (disk_of changes).moment name c
@@ -113,15 +113,15 @@ struck_image (Placed bytes) number now left Image was same = refl
 left_image : (settled : Bool) (kind : ChangeKind) (number : ℕ) (now left : List ℕ) (Image : List ℕ → Type 0) → Image now → Image left
     → ((settles kind || settled) ≡ true → left ≡ now) → ImageAfter kind now Image (left_of settled number kind left)
 left_image true kind number now left Image here was same =
-    subst (λ (l : List ℕ). ImageAfter kind now Image (after kind l)) (sym (same (or_true (settles kind)))) (image_holds kind now Image here)
+    subst (λ (l : List ℕ). ImageAfter kind now Image (after_change kind l)) (sym (same (or_true (settles kind)))) (image_holds kind now Image here)
   where
     or_true : (b : Bool) → (b || true) ≡ true
     or_true true = refl
     or_true false = refl
 left_image false kind number now left Image here was same = struck_image kind number now left Image was (λ is. same (ap (λ (b : Bool). b || false) is))
 
-left_settled : (settled : Bool) (kind : ChangeKind) (number : ℕ) (now left : List ℕ) → ((settles kind || settled) ≡ true → left ≡ now) → settled ≡ true → left_of settled number kind left ≡ after kind now
-left_settled true kind number now left same is = ap (after kind) (same (or_true (settles kind)))
+left_settled : (settled : Bool) (kind : ChangeKind) (number : ℕ) (now left : List ℕ) → ((settles kind || settled) ≡ true → left ≡ now) → settled ≡ true → left_of settled number kind left ≡ after_change kind now
+left_settled true kind number now left same is = ap (after_change kind) (same (or_true (settles kind)))
   where
     or_true : (b : Bool) → (b || true) ≡ true
     or_true true = refl
@@ -133,12 +133,12 @@ module _ (change : Change) (changes : List Change) (number : ℕ) (name : FileNa
     (later : (now left : List ℕ) (Image : List ℕ → Type 0) → Image now → Image left → (is_settled changes name ≡ true → left ≡ now) → images_after changes name now Image (left_after changes number name left))
     (now left : List ℕ) (Image : List ℕ → Type 0) (here : Image now) (was : Image left) (same : is_settled (change ∷ changes) name ≡ true → left ≡ now) where
   left_step : (b : Bool) → same_name change.name name ≡ b
-      → images_after changes name (own_or b (after change.kind now) now) (ImageIf b change.kind now Image) (left_after changes number name (own_or b (left_of (is_settled changes change.name) number change.kind left) left))
+      → images_after changes name (own_or b (after_change change.kind now) now) (ImageIf b change.kind now Image) (left_after changes number name (own_or b (left_of (is_settled changes change.name) number change.kind left) left))
   left_step true is =
       let named : is_settled changes change.name ≡ is_settled changes name = ap (is_settled changes) (same_name_true change.name name is) in
       let kept : (settles change.kind || is_settled changes change.name) ≡ true → left ≡ now =
       λ e. same (ap (λ (b : Bool). (b && settles change.kind) || is_settled changes name) is ∙ ap (λ (b : Bool). settles change.kind || b) (sym named) ∙ e) in
-      later (after change.kind now) (left_of (is_settled changes change.name) number change.kind left) (ImageAfter change.kind now Image)
+      later (after_change change.kind now) (left_of (is_settled changes change.name) number change.kind left) (ImageAfter change.kind now Image)
       (image_holds change.kind now Image here)
       (left_image (is_settled changes change.name) change.kind number now left Image here was kept)
       (λ e. left_settled (is_settled changes change.name) change.kind number now left kept (named ∙ e))

@@ -7,15 +7,15 @@ use Rattle.kv_fakes.specs.declared.log.MemSealed.{MemSealed}
 use Rattle.kv_fakes.specs.declared.past.Change.{Change}
 use Rattle.kv_fakes.specs.declared.past.ChangeKind.{ChangeKind}
 use Rattle.kv_fakes.specs.Tally.{Tally}
-use Rattle.kv_fakes.specs.Past.{added}
+use Rattle.kv_fakes.specs.Past.{with_change}
 
 -- the changes of the disk, the oldest first
 abbrev pub changes_of : MemDisk → List Change
 changes_of disk = disk.past
 
 -- its calls
-abbrev pub calls_of : MemDisk → Tally
-calls_of disk = disk.calls
+abbrev pub disk_calls : MemDisk → Tally
+disk_calls disk = disk.calls
 
 -- an open file: its name, its bytes, and whether nothing was written or cut since a sync
 abbrev pub name_in : MemLog → FileName
@@ -33,4 +33,4 @@ sealed_in file = file.bytes.items
 
 -- what a call that fails leaves of the record: this change as tried, or nothing
 abbrev pub TriesChange : List Change → List Change → FileName → ChangeKind → Type 0
-TriesChange old new name kind = (new ≡ old) ⊎ (new ≡ added old name kind)
+TriesChange old new name kind = (new ≡ old) ⊎ (new ≡ with_change old name kind)

@@ -11,18 +11,18 @@ use Rattle.kv_fakes.specs.declared.past.ChangeKind.TheVariants.{Written, Cut, Sy
 -- ---- what a file reads as
 
 -- These bytes over what stands at this place, and past the end. A write behind the end leaves the file as it was.
-abbrev pub written : ℕ → List ℕ → List ℕ → List ℕ
-written at bytes old = if nat_le at (length old) then take at old ++ bytes ++ drop (at + length bytes) old else old
+abbrev pub overwritten : ℕ → List ℕ → List ℕ → List ℕ
+overwritten at bytes old = if nat_le at (length old) then take at old ++ bytes ++ drop (at + length bytes) old else old
 
 -- what a file holds after a change of it
-abbrev pub after : ChangeKind → List ℕ → List ℕ
-after (Written at bytes true) old = written at bytes old
-after (Written at bytes false) old = old
-after (Cut len true) old = take len old
-after (Cut len false) old = old
-after Synced old = old
-after Gone old = []
-after (Placed bytes) old = bytes
+abbrev pub after_change : ChangeKind → List ℕ → List ℕ
+after_change (Written at bytes true) old = overwritten at bytes old
+after_change (Written at bytes false) old = old
+after_change (Cut len true) old = take len old
+after_change (Cut len false) old = old
+after_change Synced old = old
+after_change Gone old = []
+after_change (Placed bytes) old = bytes
 
 -- one for the file that a change is of, the other for each other file
 abbrev pub own_or : {X : Type 0} → Bool → X → X → X
@@ -32,11 +32,11 @@ own_or false own other = other
 -- what a file reads as after these changes
 abbrev pub read_after : List Change → FileName → List ℕ → List ℕ
 read_after [] name old = old
-read_after (change ∷ changes) name old = read_after changes name (own_or (same_name change.name name) (after change.kind old) old)
+read_after (change ∷ changes) name old = read_after changes name (own_or (same_name change.name name) (after_change change.kind old) old)
 
 -- the record with one change more
-abbrev pub added : List Change → FileName → ChangeKind → List Change
-added changes name kind = changes ++ record { name = name; kind = kind } ∷ []
+abbrev pub with_change : List Change → FileName → ChangeKind → List Change
+with_change changes name kind = changes ++ record { name = name; kind = kind } ∷ []
 
 -- ---- what a crash may leave of it
 
@@ -59,7 +59,7 @@ abbrev pub images_after : List Change → FileName → List ℕ → (List ℕ �
 images_after [] name now Image c = Image c
 images_after (change ∷ changes) name now Image c =
     let same = same_name change.name name in
-    images_after changes name (own_or same (after change.kind now) now) (ImageIf same change.kind now Image) c
+    images_after changes name (own_or same (after_change change.kind now) now) (ImageIf same change.kind now Image) c
 
 -- at first no file is there, which is as good as each being empty
 abbrev pub NotThere : List ℕ → Type 0

@@ -1,6 +1,6 @@
 ghost use Rattle.std.specs.Prelude.{◌≡◌, ◌+◌, ◌<◌, ◌≤◌, ◌^◌, [], take, IfOk, OnOk};
 ghost use Rattle.kv_base.specs.declared.name.FileName.{FileName};
-ghost use Rattle.kv_fakes.specs.Past.{after};
+ghost use Rattle.kv_fakes.specs.Past.{after_change};
 ghost use Rattle.kv_fakes.specs.Content.{content, Rewrites};
 ghost use Rattle.kv_fakes.specs.Crash.{draw, reached, sound, spoilt, torn_bytes, is_settled, settles, fate, struck_write, struck_or, struck, left_of, left_after};
 
@@ -86,7 +86,7 @@ fn spoilt(number: u64, byte: u8) -> u8
 
 /// Makes a change as its call did.
 fn redo(alloc: Global, files: &mut Vec<File>, change: &Change) -> Result<(), NoMem>
-    ensures { OnOk result (Rewrites files.old.items files.new.items change.now.name (after change.now.kind)) }
+    ensures { OnOk result (Rewrites files.old.items files.new.items change.now.name (after_change change.now.kind)) }
 {
     let name = change.name;
     match &change.kind {

@@ -5,7 +5,7 @@ ghost use Rattle.kv_outside.specs.Causes.{HasCause};
 ghost use Rattle.kv_outside.specs.Disk.{Disk, Agrees, IsDurable, NothingNew, Changes};
 ghost use Rattle.kv_outside.specs.Files.{Goes, Torn, Shortened, IsGone, Purged, ReadsFrom};
 ghost use Rattle.kv_fakes.specs.Tally.{Counts, IsListed};
-ghost use Rattle.kv_fakes.specs.Past.{written, after, added, read_after, disk_of};
+ghost use Rattle.kv_fakes.specs.Past.{overwritten, after_change, with_change, read_after, disk_of};
 ghost use Rattle.kv_fakes.specs.ImageLaws.{reads_law};
 ghost use Rattle.kv_fakes.specs.Crash.{left_after};
 
@@ -30,14 +30,14 @@ pub struct MemDisk {
 }
 
 impl MemDisk {
-    ghost use Rattle.kv_fakes.specs.MemDisk.{changes_of, calls_of};
+    ghost use Rattle.kv_fakes.specs.MemDisk.{changes_of, disk_calls};
 
     /// A disk without files, whose calls of these numbers, from 0, fail.
     pub fn new(alloc: Global, fails: Calls) -> MemDisk
         ensures changes { changes_of result ≡ [] }
-        ensures fails { (calls_of result).fails ≡ fails }
-        ensures made { (calls_of result).made ≡ 0 }
-        ensures failed { (calls_of result).failed ≡ 0 }
+        ensures fails { (disk_calls result).fails ≡ fails }
+        ensures made { (disk_calls result).made ≡ 0 }
+        ensures failed { (disk_calls result).failed ≡ 0 }
     {
         MemDisk {
             alloc,
@@ -49,9 +49,9 @@ impl MemDisk {
     /// Puts a file there, durable, in place of the one of that name. It is no call that is counted or that fails, and
     /// where there is no memory nothing changes.
     pub fn put(&mut self, name: FileName, bytes: Blob) -> Result<(), NoMem>
-        ensures put { OnOk result (changes_of self.new ≡ added (changes_of self.old) name (ChangeKind.Placed bytes)) }
+        ensures put { OnOk result (changes_of self.new ≡ with_change (changes_of self.old) name (ChangeKind.Placed bytes)) }
         ensures kept { OnErr result (changes_of self.new ≡ changes_of self.old) }
-        ensures calls { calls_of self.new ≡ calls_of self.old }
+        ensures calls { disk_calls self.new ≡ disk_calls self.old }
         ensures reads { OnOk result ((disk_of (changes_of self.new)).reads name ≡ Some bytes) }
         ensures durable { OnOk result (IsDurable (disk_of (changes_of self.new)) name (Some bytes)) }
         ensures others { OnOk result (Changes name (λ old new. new ≡ bytes) (disk_of (changes_of self.old)) (disk_of (changes_of self.new))) }
@@ -72,9 +72,9 @@ impl MemDisk {
     pub fn crash(&self, choice: u64) -> Result<MemDisk, NoMem>
         ensures left { IfOk result (λ left. (name : FileName) → read_after (changes_of left) name [] ≡ left_after (changes_of self.now) choice name []) }
         ensures image { IfOk result (λ left. (name : FileName) → let disk = disk_of (changes_of self.now) in disk.images disk.moment name (read_after (changes_of left) name [])) }
-        ensures fails { IfOk result (λ left. (calls_of left).fails ≡ []) }
-        ensures made { IfOk result (λ left. (calls_of left).made ≡ 0) }
-        ensures failed { IfOk result (λ left. (calls_of left).failed ≡ 0) }
+        ensures fails { IfOk result (λ left. (disk_calls left).fails ≡ []) }
+        ensures made { IfOk result (λ left. (disk_calls left).made ≡ 0) }
+        ensures failed { IfOk result (λ left. (disk_calls left).failed ≡ 0) }
     {
         let past = self.past.crash(self.alloc, choice)?;
         Ok(MemDisk {
@@ -86,7 +86,7 @@ impl MemDisk {
 }
 
 impl Files for MemDisk {
-    ghost use Rattle.kv_fakes.specs.MemDisk.{changes_of, calls_of, name_in, bytes_in, sealed_in, IsSynced, TriesChange};
+    ghost use Rattle.kv_fakes.specs.MemDisk.{changes_of, disk_calls, name_in, bytes_in, sealed_in, IsSynced, TriesChange};
 
     type Log = MemLog;
 
@@ -113,8 +113,8 @@ impl Files for MemDisk {
         ensures agrees { IfOk result (λ log. Agrees (disk_of (changes_of self.new)) name (Some (bytes_in log))) }
         ensures changes { changes_of self.new ≡ changes_of self.old }
         ensures disk { NothingNew (disk_of (changes_of self.old)) (disk_of (changes_of self.new)) }
-        ensures cause { HasCause (calls_of self.old).failed (calls_of self.new).failed result }
-        ensures counts { Counts (calls_of self.old) (calls_of self.new) result }
+        ensures cause { HasCause (disk_calls self.old).failed (disk_calls self.new).failed result }
+        ensures counts { Counts (disk_calls self.old) (disk_calls self.new) result }
     {
         if self.calls.turn() {
             return Err(self.calls.fail());
@@ -135,9 +135,9 @@ impl Files for MemDisk {
         ensures limit { IfOk result (λ n. n ≤ 2 ^ 63) }
         ensures changes { changes_of self.new ≡ changes_of self.old }
         ensures disk { NothingNew (disk_of (changes_of self.old)) (disk_of (changes_of self.new)) }
-        ensures cause { HasCause (calls_of self.old).failed (calls_of self.new).failed result }
-        ensures counts { Counts (calls_of self.old) (calls_of self.new) result }
-        ensures only { IsErr result → IsListed (calls_of self.old) }
+        ensures cause { HasCause (disk_calls self.old).failed (disk_calls self.new).failed result }
+        ensures counts { Counts (disk_calls self.old) (disk_calls self.new) result }
+        ensures only { IsErr result → IsListed (disk_calls self.old) }
     {
         if self.calls.turn() {
             return Err(self.calls.fail());
@@ -151,9 +151,9 @@ impl Files for MemDisk {
         ensures bytes { IfOk result (λ count. ReadsFrom at (bytes_in log.now) out.old out.new count) }
         ensures changes { changes_of self.new ≡ changes_of self.old }
         ensures disk { NothingNew (disk_of (changes_of self.old)) (disk_of (changes_of self.new)) }
-        ensures cause { HasCause (calls_of self.old).failed (calls_of self.new).failed result }
-        ensures counts { Counts (calls_of self.old) (calls_of self.new) result }
-        ensures only { IsErr result → IsListed (calls_of self.old) }
+        ensures cause { HasCause (disk_calls self.old).failed (disk_calls self.new).failed result }
+        ensures counts { Counts (disk_calls self.old) (disk_calls self.new) result }
+        ensures only { IsErr result → IsListed (disk_calls self.old) }
     {
         if self.calls.turn() {
             return Err(self.calls.fail());
@@ -171,11 +171,11 @@ impl Files for MemDisk {
         ensures limit { OnOk result (at + length bytes.now ≤ 2 ^ 63) }
         ensures name { name_in log.new ≡ name_in log.old }
         ensures agrees { Agrees (disk_of (changes_of self.old)) (name_in log.old) (Some (bytes_in log.old)) → Agrees (disk_of (changes_of self.new)) (name_in log.old) (Some (bytes_in log.new)) }
-        ensures done { OnOk result (changes_of self.new ≡ added (changes_of self.old) (name_in log.old) (ChangeKind.Written at bytes.now true)) }
+        ensures done { OnOk result (changes_of self.new ≡ with_change (changes_of self.old) (name_in log.old) (ChangeKind.Written at bytes.now true)) }
         ensures tried { OnErr result (TriesChange (changes_of self.old) (changes_of self.new) (name_in log.old) (ChangeKind.Written at bytes.now false)) }
         ensures disk { Changes (name_in log.old) (Torn at (length bytes.now)) (disk_of (changes_of self.old)) (disk_of (changes_of self.new)) }
-        ensures cause { HasCause (calls_of self.old).failed (calls_of self.new).failed result }
-        ensures counts { Counts (calls_of self.old) (calls_of self.new) result }
+        ensures cause { HasCause (disk_calls self.old).failed (disk_calls self.new).failed result }
+        ensures counts { Counts (disk_calls self.old) (disk_calls self.new) result }
     {
         let fails = self.calls.turn();
         if bytes.len() as u64 > MAX_LEN - at {
@@ -201,11 +201,11 @@ impl Files for MemDisk {
         ensures kept { OnErr result (bytes_in log.new ≡ bytes_in log.old) }
         ensures name { name_in log.new ≡ name_in log.old }
         ensures agrees { Agrees (disk_of (changes_of self.old)) (name_in log.old) (Some (bytes_in log.old)) → Agrees (disk_of (changes_of self.new)) (name_in log.old) (Some (bytes_in log.new)) }
-        ensures done { OnOk result (changes_of self.new ≡ added (changes_of self.old) (name_in log.old) (ChangeKind.Cut len true)) }
+        ensures done { OnOk result (changes_of self.new ≡ with_change (changes_of self.old) (name_in log.old) (ChangeKind.Cut len true)) }
         ensures tried { OnErr result (TriesChange (changes_of self.old) (changes_of self.new) (name_in log.old) (ChangeKind.Cut len false)) }
         ensures disk { Changes (name_in log.old) (Shortened len) (disk_of (changes_of self.old)) (disk_of (changes_of self.new)) }
-        ensures cause { HasCause (calls_of self.old).failed (calls_of self.new).failed result }
-        ensures counts { Counts (calls_of self.old) (calls_of self.new) result }
+        ensures cause { HasCause (disk_calls self.old).failed (disk_calls self.new).failed result }
+        ensures counts { Counts (disk_calls self.old) (disk_calls self.new) result }
     {
         let fails = self.calls.turn();
         match shorten(&mut self.past, log, len, !fails) {
@@ -226,11 +226,11 @@ impl Files for MemDisk {
         ensures synced { OnOk result (IsSynced log.new) }
         ensures bytes { bytes_in log.new ≡ bytes_in log.old }
         ensures name { name_in log.new ≡ name_in log.old }
-        ensures done { OnOk result (changes_of self.new ≡ added (changes_of self.old) (name_in log.old) ChangeKind.Synced) }
+        ensures done { OnOk result (changes_of self.new ≡ with_change (changes_of self.old) (name_in log.old) ChangeKind.Synced) }
         ensures kept { OnErr result (changes_of self.new ≡ changes_of self.old) }
         ensures disk { NothingNew (disk_of (changes_of self.old)) (disk_of (changes_of self.new)) }
-        ensures cause { HasCause (calls_of self.old).failed (calls_of self.new).failed result }
-        ensures counts { Counts (calls_of self.old) (calls_of self.new) result }
+        ensures cause { HasCause (disk_calls self.old).failed (disk_calls self.new).failed result }
+        ensures counts { Counts (disk_calls self.old) (disk_calls self.new) result }
     {
         if self.calls.turn() {
             return Err(self.calls.fail());
@@ -250,9 +250,9 @@ impl Files for MemDisk {
         ensures bytes { IfOk result (λ file. sealed_in file ≡ bytes_in log) }
         ensures changes { changes_of self.new ≡ changes_of self.old }
         ensures disk { NothingNew (disk_of (changes_of self.old)) (disk_of (changes_of self.new)) }
-        ensures cause { HasCause (calls_of self.old).failed (calls_of self.new).failed result }
-        ensures counts { Counts (calls_of self.old) (calls_of self.new) result }
-        ensures only { IsErr result → IsListed (calls_of self.old) }
+        ensures cause { HasCause (disk_calls self.old).failed (disk_calls self.new).failed result }
+        ensures counts { Counts (disk_calls self.old) (disk_calls self.new) result }
+        ensures only { IsErr result → IsListed (disk_calls self.old) }
     {
         if self.calls.turn() {
             return Err(self.calls.fail());
@@ -266,9 +266,9 @@ impl Files for MemDisk {
         ensures bytes { IfOk result (λ count. ReadsFrom at (sealed_in file.now) out.old out.new count) }
         ensures changes { changes_of self.new ≡ changes_of self.old }
         ensures disk { NothingNew (disk_of (changes_of self.old)) (disk_of (changes_of self.new)) }
-        ensures cause { HasCause (calls_of self.old).failed (calls_of self.new).failed result }
-        ensures counts { Counts (calls_of self.old) (calls_of self.new) result }
-        ensures only { IsErr result → IsListed (calls_of self.old) }
+        ensures cause { HasCause (disk_calls self.old).failed (disk_calls self.new).failed result }
+        ensures counts { Counts (disk_calls self.old) (disk_calls self.new) result }
+        ensures only { IsErr result → IsListed (disk_calls self.old) }
     {
         if self.calls.turn() {
             return Err(self.calls.fail());
@@ -281,11 +281,11 @@ impl Files for MemDisk {
     fn purge(&mut self, name: FileName) -> Result<(), Failed>
         ensures gone { OnOk result (Goes IsGone (Some (read_after (changes_of self.old) name [])) (Some (read_after (changes_of self.new) name []))) }
         ensures torn { Goes Purged (Some (read_after (changes_of self.old) name [])) (Some (read_after (changes_of self.new) name [])) }
-        ensures done { OnOk result (changes_of self.new ≡ added (changes_of self.old) name ChangeKind.Gone) }
+        ensures done { OnOk result (changes_of self.new ≡ with_change (changes_of self.old) name ChangeKind.Gone) }
         ensures tried { OnErr result (TriesChange (changes_of self.old) (changes_of self.new) name ChangeKind.Gone) }
         ensures disk { Changes name Purged (disk_of (changes_of self.old)) (disk_of (changes_of self.new)) }
-        ensures cause { HasCause (calls_of self.old).failed (calls_of self.new).failed result }
-        ensures counts { Counts (calls_of self.old) (calls_of self.new) result }
+        ensures cause { HasCause (disk_calls self.old).failed (disk_calls self.new).failed result }
+        ensures counts { Counts (disk_calls self.old) (disk_calls self.new) result }
     {
         let fails = self.calls.turn();
         match self.past.remove(name) {

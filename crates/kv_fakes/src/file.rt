@@ -1,6 +1,6 @@
 ghost use Rattle.std.specs.Prelude.{◌≡◌, ◌<◌, ◌≤◌, ◌+◌, ◌-◌, [], ◌++◌, min, length, take, drop, IfOk, OnOk, OnErr};
-ghost use Rattle.kv_fakes.specs.Past.{written};
-ghost use Rattle.kv_fakes.specs.Content.{place, content, Rewrites, SameContent};
+ghost use Rattle.kv_fakes.specs.Past.{overwritten};
+ghost use Rattle.kv_fakes.specs.Content.{file_place, content, Rewrites, SameContent};
 
 use kv_base::{FileName, NoMem};
 use std::alloc::Global;
@@ -36,7 +36,7 @@ pub fn overwrite(bytes: &mut [u8], at: usize, piece: &[u8])
 
 /// Writes the piece over what stands at this place, and past the end. Behind the end it writes nothing.
 pub fn write_over(bytes: &mut Vec<u8>, at: usize, piece: &[u8]) -> Result<(), NoMem>
-    ensures ok { OnOk result (bytes.new.items ≡ written at piece.now bytes.old.items) }
+    ensures ok { OnOk result (bytes.new.items ≡ overwritten at piece.now bytes.old.items) }
     ensures err { OnErr result (bytes.new.items ≡ bytes.old.items) }
 {
     if bytes.len() < at {
@@ -49,7 +49,7 @@ pub fn write_over(bytes: &mut Vec<u8>, at: usize, piece: &[u8]) -> Result<(), No
 
 /// The place of the file of this name; the number of files where it is not there.
 fn place_of(files: &[File], name: FileName) -> usize
-    ensures { result ≡ place files.now name }
+    ensures { result ≡ file_place files.now name }
 {
     for at in 0..files.len() {
         if files[at].name.is(name) {
@@ -71,7 +71,7 @@ pub fn content_of(files: &[File], name: FileName) -> &[u8]
 
 /// The place of the file of this name, which is made where it is not there.
 fn place_for(alloc: Global, files: &mut Vec<File>, name: FileName) -> Result<usize, NoMem>
-    ensures place { IfOk result (λ at. at ≡ place files.new.items name) }
+    ensures place { IfOk result (λ at. at ≡ file_place files.new.items name) }
     ensures there { IfOk result (λ at. at < length files.new.items) }
     ensures same { SameContent files.old.items files.new.items }
 {
@@ -93,7 +93,7 @@ pub fn write_file(
     at: usize,
     piece: &[u8],
 ) -> Result<(), NoMem>
-    ensures ok { OnOk result (Rewrites files.old.items files.new.items name (written at piece.now)) }
+    ensures ok { OnOk result (Rewrites files.old.items files.new.items name (overwritten at piece.now)) }
     ensures err { OnErr result (SameContent files.old.items files.new.items) }
 {
     let place = place_for(alloc, files, name)?;

@@ -1,6 +1,6 @@
 ghost use Rattle.std.specs.Prelude.{◌≡◌, [], ◌∷◌, ◌++◌, true, false, List, ℕ, OnOk, OnErr, IfOk};
 ghost use Rattle.kv_base.specs.declared.name.FileName.{FileName};
-ghost use Rattle.kv_fakes.specs.Past.{after, read_after, added};
+ghost use Rattle.kv_fakes.specs.Past.{after_change, read_after, with_change};
 ghost use Rattle.kv_fakes.specs.Crash.{left_after};
 
 use crate::crash::leave;
@@ -49,8 +49,8 @@ impl Journal {
 
     /// Adds a change that leaves the bytes of its file as they are.
     pub fn note(&mut self, name: FileName, kind: ChangeKind) -> Result<(), NoMem>
-        requires { (old : List ℕ) → after kind old ≡ old }
-        ensures ok { OnOk result (self.new ≡ added self.old name kind) }
+        requires { (old : List ℕ) → after_change kind old ≡ old }
+        ensures ok { OnOk result (self.new ≡ with_change self.old name kind) }
         ensures err { OnErr result (self.new ≡ self.old) }
     {
         self.changes.push(Change { name, kind })?;
@@ -65,7 +65,7 @@ impl Journal {
         at: u64,
         piece: &[u8],
     ) -> Result<(), NoMem>
-        ensures ok { OnOk result (self.new ≡ added self.old name (ChangeKind.Written at piece.now true)) }
+        ensures ok { OnOk result (self.new ≡ with_change self.old name (ChangeKind.Written at piece.now true)) }
         ensures err { OnErr result (self.new ≡ self.old) }
     {
         let bytes = Blob::copy(alloc, piece)?;
@@ -83,7 +83,7 @@ impl Journal {
 
     /// Cuts a file.
     pub fn cut(&mut self, name: FileName, len: u64) -> Result<(), NoMem>
-        ensures ok { OnOk result (self.new ≡ added self.old name (ChangeKind.Cut len true)) }
+        ensures ok { OnOk result (self.new ≡ with_change self.old name (ChangeKind.Cut len true)) }
         ensures err { OnErr result (self.new ≡ self.old) }
     {
         let kind = ChangeKind::Cut { len, done: true };
@@ -94,7 +94,7 @@ impl Journal {
 
     /// Takes a file away.
     pub fn remove(&mut self, name: FileName) -> Result<(), NoMem>
-        ensures ok { OnOk result (self.new ≡ added self.old name ChangeKind.Gone) }
+        ensures ok { OnOk result (self.new ≡ with_change self.old name ChangeKind.Gone) }
         ensures err { OnErr result (self.new ≡ self.old) }
     {
         let kind = ChangeKind::Gone;
@@ -105,7 +105,7 @@ impl Journal {
 
     /// Puts a file there, durable.
     pub fn place(&mut self, alloc: Global, name: FileName, bytes: Blob) -> Result<(), NoMem>
-        ensures ok { OnOk result (self.new ≡ added self.old name (ChangeKind.Placed bytes)) }
+        ensures ok { OnOk result (self.new ≡ with_change self.old name (ChangeKind.Placed bytes)) }
         ensures err { OnErr result (self.new ≡ self.old) }
     {
         let copy = Vec::from_slice(alloc, bytes.bytes())?;

@@ -2,7 +2,7 @@ ghost use Rattle.std.specs.Prelude.{◌≡◌, ◌≤◌, List, ℕ, length, tru
 ghost use Rattle.kv_base.specs.declared.name.FileName.{FileName};
 ghost use Rattle.kv_outside.specs.Disk.{Disk, Agrees, Changes};
 ghost use Rattle.kv_outside.specs.Files.{Goes, Torn, Shortened, ReadsFrom};
-ghost use Rattle.kv_fakes.specs.Past.{written, after, added, disk_of};
+ghost use Rattle.kv_fakes.specs.Past.{overwritten, after_change, with_change, disk_of};
 
 use crate::file::{overwrite, stretch};
 use crate::journal::Journal;
@@ -47,8 +47,8 @@ fn write_both(
     piece: &[u8],
 ) -> Result<(), NoMem>
     requires { at ≤ length log.old.bytes.items }
-    ensures bytes { OnOk result (log.new.bytes.items ≡ written at piece.now log.old.bytes.items) }
-    ensures added { OnOk result (past.new ≡ added past.old log.old.name (ChangeKind.Written at piece.now true)) }
+    ensures bytes { OnOk result (log.new.bytes.items ≡ overwritten at piece.now log.old.bytes.items) }
+    ensures added { OnOk result (past.new ≡ with_change past.old log.old.name (ChangeKind.Written at piece.now true)) }
     ensures kept { OnErr result (log.new.bytes.items ≡ log.old.bytes.items) }
     ensures none { OnErr result (past.new ≡ past.old) }
     ensures name { log.new.name ≡ log.old.name }
@@ -75,7 +75,7 @@ fn try_write(
     at: u64,
     piece: &[u8],
 ) -> Result<(), NoMem>
-    ensures added { OnOk result (past.new ≡ added past.old name (ChangeKind.Written at piece.now false)) }
+    ensures added { OnOk result (past.new ≡ with_change past.old name (ChangeKind.Written at piece.now false)) }
     ensures none { OnErr result (past.new ≡ past.old) }
 {
     let bytes = Blob::copy(alloc, piece)?;
@@ -93,8 +93,8 @@ pub fn write(
     done: bool,
 ) -> Result<(), NoMem>
     requires { at ≤ length log.old.bytes.items }
-    ensures bytes { OnOk result (log.new.bytes.items ≡ after (ChangeKind.Written at piece.now done) log.old.bytes.items) }
-    ensures added { OnOk result (past.new ≡ added past.old log.old.name (ChangeKind.Written at piece.now done)) }
+    ensures bytes { OnOk result (log.new.bytes.items ≡ after_change (ChangeKind.Written at piece.now done) log.old.bytes.items) }
+    ensures added { OnOk result (past.new ≡ with_change past.old log.old.name (ChangeKind.Written at piece.now done)) }
     ensures kept { OnErr result (log.new.bytes.items ≡ log.old.bytes.items) }
     ensures none { OnErr result (past.new ≡ past.old) }
     ensures name { log.new.name ≡ log.old.name }
@@ -112,8 +112,8 @@ pub fn write(
 
 /// Cuts a log and its file, or where the cut is to fail records that it was tried.
 pub fn shorten(past: &mut Journal, log: &mut MemLog, len: u64, done: bool) -> Result<(), NoMem>
-    ensures bytes { OnOk result (log.new.bytes.items ≡ after (ChangeKind.Cut len done) log.old.bytes.items) }
-    ensures added { OnOk result (past.new ≡ added past.old log.old.name (ChangeKind.Cut len done)) }
+    ensures bytes { OnOk result (log.new.bytes.items ≡ after_change (ChangeKind.Cut len done) log.old.bytes.items) }
+    ensures added { OnOk result (past.new ≡ with_change past.old log.old.name (ChangeKind.Cut len done)) }
     ensures kept { OnErr result (log.new.bytes.items ≡ log.old.bytes.items) }
     ensures none { OnErr result (past.new ≡ past.old) }
     ensures name { log.new.name ≡ log.old.name }

@@ -14,8 +14,8 @@ told_leads P Q leads None was = tt
 told_leads P Q leads (Some c) was = leads c was
 
 -- a write behind what stands there
-pub holds_at : (at : ℕ) (front rest bytes old new : List ℕ) → old ≡ front ++ rest → length front ≡ at → HasWritten at bytes old new → new ≡ front ++ (bytes ++ drop (length bytes) rest)
-holds_at at front rest bytes old new is long holds =
+pub holds_written : (at : ℕ) (front rest bytes old new : List ℕ) → old ≡ front ++ rest → length front ≡ at → HasWritten at bytes old new → new ≡ front ++ (bytes ++ drop (length bytes) rest)
+holds_written at front rest bytes old new is long holds =
     let first : take at old ≡ front = ap (λ (l : List ℕ). take at l) is ∙ take_at front rest at long in
     let behind : drop at old ≡ rest = ap (λ (l : List ℕ). drop at l) is ∙ drop_at front rest at long in
     let last : drop (at + length bytes) old ≡ drop (length bytes) rest = sym (drop-drop (length bytes) at old) ∙ ap (λ (l : List ℕ). drop (length bytes) l) behind in
@@ -29,7 +29,7 @@ torn_of_holds at bytes old new in_range holds =
     let n = length bytes in
     let split : old ≡ front ++ rest = sym (take-append-drop at old) in
     let long : length front ≡ at = length-take-le at old in_range in
-    let is : new ≡ front ++ (bytes ++ drop n rest) = holds_at at front rest bytes old new split long holds in
+    let is : new ≡ front ++ (bytes ++ drop n rest) = holds_written at front rest bytes old new split long holds in
     let from : drop at new ≡ bytes ++ drop n rest = ap (λ (l : List ℕ). drop at l) is ∙ drop_at front (bytes ++ drop n rest) at long in
     record {
       before = ap (λ (l : List ℕ). take at l) is ∙ take_at front (bytes ++ drop n rest) at long;
@@ -52,7 +52,7 @@ torn_long at n k old new goes was = goes_keeps (Torn at n) (λ d. k ≤ length d
 
 pub held_long : (at : ℕ) (bytes : List ℕ) (old new : Option (List ℕ)) → Goes (HasWritten at bytes) old new → IfSome old (λ d. at ≤ length d) → IfSome new (λ c. at + length bytes ≤ length c)
 held_long at bytes old new goes was = goes_keeps (HasWritten at bytes) (λ d. at ≤ length d) (λ c. at + length bytes ≤ length c)
-    (λ d c le holds. omega (arith, ap length (holds_at at (take at d) (drop at d) bytes d c (sym (take-append-drop at d)) (length-take-le at d le) holds), length-append (take at d) (bytes ++ drop (length bytes) (drop at d)), length-append bytes (drop (length bytes) (drop at d)), length-take-le at d le)) old new goes was
+    (λ d c le holds. omega (arith, ap length (holds_written at (take at d) (drop at d) bytes d c (sym (take-append-drop at d)) (length-take-le at d le) holds), length-append (take at d) (bytes ++ drop (length bytes) (drop at d)), length-append bytes (drop (length bytes) (drop at d)), length-take-le at d le)) old new goes was
 
 pub torn_of_held : (at : ℕ) (bytes : List ℕ) (old new : Option (List ℕ)) → IfSome old (λ d. at ≤ length d) → Goes (HasWritten at bytes) old new → Goes (Torn at (length bytes)) old new
 torn_of_held at bytes None new in_range goes = goes

@@ -62,12 +62,12 @@ none_there level (u ∷ tables) from =
     other n le = grind (arith, nat_tests)
 
 -- from how a table's level stands to this one
-pub data Side (m n : ℕ) : Type 0 where
-  Below : m < n → Side m n
-  At : m ≡ n → Side m n
-  Above : n < m → Side m n
+pub data LevelOrder (m n : ℕ) : Type 0 where
+  Below : m < n → LevelOrder m n
+  At : m ≡ n → LevelOrder m n
+  Above : n < m → LevelOrder m n
 
-side : (m n : ℕ) → Side m n
+side : (m n : ℕ) → LevelOrder m n
 side m n = by_less (nat_lt m n) refl (nat_lt n m) refl
   where
     less : (m n : ℕ) → nat_lt m n ≡ true → m < n
@@ -76,7 +76,7 @@ side m n = by_less (nat_lt m n) refl (nat_lt n m) refl
     equal : (m n : ℕ) → nat_lt m n ≡ false → nat_lt n m ≡ false → m ≡ n
     equal m n below above = grind (arith, nat_tests)
 
-    by_less : (a : Bool) → nat_lt m n ≡ a → (b : Bool) → nat_lt n m ≡ b → Side m n
+    by_less : (a : Bool) → nat_lt m n ≡ a → (b : Bool) → nat_lt n m ≡ b → LevelOrder m n
     by_less true below b above = Below (less m n below)
     by_less false below true above = Above (less n m above)
     by_less false below false above = At (equal m n below above)
@@ -116,7 +116,7 @@ order_level level (t ∷ tables) order =
         → slice_range (t ∷ tables) (lesser level (t ∷ tables)) (lesser (level + 1) (t ∷ tables)) ≡ take (cond b (1 + n) 0 - cond a (1 + m) 0) (drop (cond a (1 + m) 0) (t ∷ tables))
     whole a b m n below upto from to = (λ i. take (cond (upto i) (1 + to i) 0 - cond (below i) (1 + from i) 0) (drop (cond (below i) (1 + from i) 0) (t ∷ tables)))
 
-    by_side : Side t.level level → list_all (goes_before t) tables ≡ true → slice_range tables (lesser level tables) (lesser (level + 1) tables) ≡ at_level level tables
+    by_side : LevelOrder t.level level → list_all (goes_before t) tables ≡ true → slice_range tables (lesser level tables) (lesser (level + 1) tables) ≡ at_level level tables
         → slice_range (t ∷ tables) (lesser level (t ∷ tables)) (lesser (level + 1) (t ∷ tables)) ≡ at_level level (t ∷ tables)
     by_side (Below lt) goes rest =
         let m = lesser level tables in

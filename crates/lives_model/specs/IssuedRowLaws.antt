@@ -5,7 +5,7 @@ use Rattle.std.specs.Prelude.{◌⊎◌, nat_le, ◌==◌, ◌&&◌, Option, Som
 use Rattle.std.specs.List.{Contains}
 use Rattle.kv_base.specs.Map.{Bytes, get, get-empty, empty}
 use Rattle.kv_base.specs.RawKeys.{is_key, is_version}
-use Rattle.kv_base.specs.MetaValues.{MetaValue, StringValue, LifeValue, ListValue, read_meta}
+use Rattle.kv_base.specs.MetaValues.{MetaValue, StringValue, LifeValue, ListValue, read_meta, version_of}
 use Rattle.batch_codec.specs.Batches.{Batch, after, joined, over}
 use Rattle.batch_codec.specs.BatchLaws.{get-joined}
 use Rattle.kv_base.specs.declared.row.Row.{Row}
@@ -23,14 +23,13 @@ use Rattle.redis_model.specs.declared.command.Cmds.TheVariants.{One, Many}
 use Rattle.redis_model.specs.Value.{Entry, RedisMap}
 use Rattle.redis_model.specs.Machine.{apply_alive}
 use Rattle.lives_model.specs.Rows.{Rows, Side, meta_key, row_key}
-use Rattle.lives_model.specs.Clean.{version_of}
 use Rattle.lives_model.specs.Means.{has_life, row_of}
 use Rattle.lives_model.specs.Plans.{IsFresh, IsPlanFor, AreAsked, IsStep, KeyPlan, LeavesEntry, PlannedPart, AreParts, join_parts, changed, life_after, version}
 use Rattle.lives_model.specs.Issued.{meta_at, HasVersionsBelow, IsNearMiddle, IsIssued, IsIssuedMeta, IsIssuedRow, AreIssued}
 use Rattle.lives_model.specs.IssuedLaws.{step_below, below_more}
 use Rattle.lives_model.specs.IssuedListLaws.{plan_issues_rows}
 use Rattle.lives_model.specs.JoinedBatchLaws.{after-empty, after-joined}
-use Rattle.lives_model.specs.StepLaws.{placed}
+use Rattle.lives_model.specs.StepLaws.{get-placed}
 use Rattle.lives_model.specs.IssuedRows.{HasNoneFrom, IsCommitted}
 
 -- ---- a later sequence
@@ -144,7 +143,7 @@ module _ (c : Rows) (bound t fresh : ℕ) (m : RedisMap) (d : Command) (b : Batc
     none_put : (new : Option Bytes) → get b (row_key side k v subkey) ≡ changed None new → get b (row_key side k v subkey) ≡ None
     none_put None e = e
     none_put (Some x) e =
-        let there = placed c b (row_key side k v subkey) (Some x) e in
+        let there = get-placed c b (row_key side k v subkey) (Some x) e in
         let none = after_below.rows k key side v subkey above fits in
         absurd (cc)
 
@@ -226,7 +225,7 @@ module _ (c : Rows) (t base sequence : ℕ) (m : RedisMap) (ds : Cmds) (b : Batc
   meta_issued k None there = tt
   meta_issued k (Some text) there =
       let later = is.later in
-      let put : get (after c b) (meta_key k) ≡ Some text = placed c b (meta_key k) (Some text) there in
+      let put : get (after c b) (meta_key k) ≡ Some text = get-placed c b (meta_key k) (Some text) there in
       later_meta (base + 1) sequence (read_meta text) (omega arith) (has_both (base + 1) (read_meta text)
       (subst (λ (o : Option Bytes). IfSome (option_and_then version_of (option_and_then read_meta o)) (λ v. v < version (base + 1) 0)) put (after_issued.versions.meta k))
       (subst (λ (o : Option Bytes). IfSome (option_and_then read_meta o) (IsNearMiddle ((base + 1) * 2 ^ 20))) put (after_issued.lists.meta k)))

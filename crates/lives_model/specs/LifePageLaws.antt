@@ -10,10 +10,10 @@ use Rattle.lives_model.specs.Means.{LifeAt, StandsForEntry, meta_for, has_life}
 use Rattle.lives_model.specs.MeansOneLaws.{tail_fits}
 use Rattle.lives_model.specs.StepLaws.{live_fits}
 use Rattle.lives_model.specs.Page.{page}
-use Rattle.lives_model.specs.Passing.{passing, asked}
+use Rattle.lives_model.specs.Passing.{passing, is_asked}
 use Rattle.lives_model.specs.PrefixLaws.{passing_under, passing_all}
 use Rattle.lives_model.specs.PageLaws.{page_is}
-use Rattle.lives_model.specs.LifeRows.{value_rows, rows_from, in_life, HasIndices, HasRowsOf}
+use Rattle.lives_model.specs.LifeRows.{value_rows, rows_from_subkey, in_life, HasIndices, HasRowsOf}
 use Rattle.lives_model.specs.LifeRowLaws.{value_rows_sorted, value_rows_found}
 
 -- a collection that rows stand for has its rows
@@ -29,21 +29,21 @@ stands_rows c t k e s h = record { scores = s.scores; indices = by_value e.value
 
 module _ (c : Rows) (k : Bytes) (life : LifeAt) (v : Value) (has : HasRowsOf c k life v) (side : Side) where
   -- from a subkey on stand the value's rows from there on
-  pub life_from : (x : Bytes) → passing (asked (row_key side k life.version x) (life_prefix (space_of side) k life.version)) c ≡ in_life side k life.version (rows_from x (value_rows v life.head side))
+  pub life_from : (x : Bytes) → passing (is_asked (row_key side k life.version x) (life_prefix (space_of side) k life.version)) c ≡ in_life side k life.version (rows_from_subkey x (value_rows v life.head side))
   unfolding row_key
   life_from x =
       passing_under (life_prefix (space_of side) k life.version) c (value_rows v life.head side) x (value_rows_sorted v life.head side has.scores has.indices)
       (λ q. has.rows side q ∙ sym (value_rows_found v life.head side q has.scores has.indices))
 
   -- and from the prefix on all of them
-  pub life_whole : passing (asked (life_prefix (space_of side) k life.version) (life_prefix (space_of side) k life.version)) c ≡ in_life side k life.version (value_rows v life.head side)
+  pub life_whole : passing (is_asked (life_prefix (space_of side) k life.version) (life_prefix (space_of side) k life.version)) c ≡ in_life side k life.version (value_rows v life.head side)
   unfolding row_key
   life_whole =
       passing_all (life_prefix (space_of side) k life.version) c (value_rows v life.head side) (value_rows_sorted v life.head side has.scores has.indices)
       (λ q. has.rows side q ∙ sym (value_rows_found v life.head side q has.scores has.indices))
 
   -- so a page has the first of them
-  pub page_from : (x : Bytes) (limit : ℕ) → page c (row_key side k life.version x) (life_prefix (space_of side) k life.version) limit ≡ take limit (in_life side k life.version (rows_from x (value_rows v life.head side)))
+  pub page_from : (x : Bytes) (limit : ℕ) → page c (row_key side k life.version x) (life_prefix (space_of side) k life.version) limit ≡ take limit (in_life side k life.version (rows_from_subkey x (value_rows v life.head side)))
   page_from x limit = page_is c (row_key side k life.version x) (life_prefix (space_of side) k life.version) limit ∙ ap (take limit) (life_from x)
 
   pub page_whole : (limit : ℕ) → page c (life_prefix (space_of side) k life.version) (life_prefix (space_of side) k life.version) limit ≡ take limit (in_life side k life.version (value_rows v life.head side))

@@ -18,7 +18,7 @@ use Rattle.redis_model.specs.Value.{ZSet}
 use Rattle.redis_model.specs.SortedSets.{Scored, ranked}
 use Rattle.lives_model.specs.Rows.{Side, Scores, space_of, row_key}
 use Rattle.lives_model.specs.Means.{HasWholeScores}
-use Rattle.lives_model.specs.LifeRows.{by_index, rank_key, value_rows, rows_from}
+use Rattle.lives_model.specs.LifeRows.{by_index, rank_key, value_rows, rows_from_subkey}
 use Rattle.lives_model.specs.LifeRowLaws.{ScoresFit, all_fit, fit_order}
 
 -- what stands behind the prefix of a life in a raw key of it is the subkey
@@ -37,7 +37,7 @@ is_below : (a b : ℕ) → a < b → is_lt (nat_cmp a b) ≡ true
 is_below a b h = grind (arith, nat_tests)
 
 -- from an index on that is not above the first all items stand
-all_from : (a head : ℕ) (l : List Bytes) → a ≤ head → head + length l < 2 ^ 64 → rows_from (u64 a) (by_index head l) ≡ by_index head l
+all_from : (a head : ℕ) (l : List Bytes) → a ≤ head → head + length l < 2 ^ 64 → rows_from_subkey (u64 a) (by_index head l) ≡ by_index head l
 all_from a head [] low fit = refl
 all_from a head (v ∷ l) low fit =
     let here : is_lt (byte_cmp (u64 head) (u64 a)) ≡ false = ap is_lt (numbers_ascend head a (omega arith) (omega arith)) ∙ not_below head a low in
@@ -45,16 +45,16 @@ all_from a head (v ∷ l) low fit =
     λ i. cond (not (here i)) ((u64 head, v) ∷ rest i) (rest i)
 
 -- from the index of an item on stand it and those behind it
-pub items_from : (i head : ℕ) (l : List Bytes) → i ≤ length l → head + length l < 2 ^ 64 → rows_from (u64 (head + i)) (by_index head l) ≡ by_index (head + i) (drop i l)
+pub items_from : (i head : ℕ) (l : List Bytes) → i ≤ length l → head + length l < 2 ^ 64 → rows_from_subkey (u64 (head + i)) (by_index head l) ≡ by_index (head + i) (drop i l)
 items_from zero head l low fit =
     let here : head + 0 ≡ head = omega arith in
-    ap (λ (n : ℕ). rows_from (u64 n) (by_index head l)) here ∙ all_from head head l (omega arith) fit ∙ ap (λ (n : ℕ). by_index n l) (sym here)
+    ap (λ (n : ℕ). rows_from_subkey (u64 n) (by_index head l)) here ∙ all_from head head l (omega arith) fit ∙ ap (λ (n : ℕ). by_index n l) (sym here)
 items_from (suc i) head [] low fit = absurd (omega arith)
 items_from (suc i) head (v ∷ l) low fit =
     let past : is_lt (byte_cmp (u64 head) (u64 (head + suc i))) ≡ true = ap is_lt (numbers_ascend head (head + suc i) (omega arith) (omega arith)) ∙ is_below head (head + suc i) (omega arith) in
     let place : head + suc i ≡ (head + 1) + i = omega arith in
-    ap (λ b. cond (not b) ((u64 head, v) ∷ rows_from (u64 (head + suc i)) (by_index (head + 1) l)) (rows_from (u64 (head + suc i)) (by_index (head + 1) l))) past
-    ∙ ap (λ (n : ℕ). rows_from (u64 n) (by_index (head + 1) l)) place
+    ap (λ b. cond (not b) ((u64 head, v) ∷ rows_from_subkey (u64 (head + suc i)) (by_index (head + 1) l)) (rows_from_subkey (u64 (head + suc i)) (by_index (head + 1) l))) past
+    ∙ ap (λ (n : ℕ). rows_from_subkey (u64 n) (by_index (head + 1) l)) place
     ∙ items_from i (head + 1) l (omega arith) (omega arith)
     ∙ ap (λ (n : ℕ). by_index n (drop i l)) (sym place)
 
@@ -89,17 +89,17 @@ below_score e s h g =
     by_score a b = grind (arith, nat_tests, ints)
 
 -- from a score on stand the members whose score is not below it
-ranks_from : (es : List Scored) (s : ℤ) → ScoresFit es → IsTrue (fits s) → rows_from (u64 (score_number s)) (map (λ e. (rank_key e, [])) es) ≡ map (λ e. (rank_key e, [])) (filter (λ e. int_le s e.1) es)
+ranks_from : (es : List Scored) (s : ℤ) → ScoresFit es → IsTrue (fits s) → rows_from_subkey (u64 (score_number s)) (map (λ e. (rank_key e, [])) es) ≡ map (λ e. (rank_key e, [])) (filter (λ e. int_le s e.1) es)
 ranks_from [] s all h = refl
 ranks_from (e ∷ es) s all h = by_test (int_le s e.1) (below_score e s all.0 h) (ranks_from es s all.1 h)
   where
-    by_test : (b : Bool) → is_lt (byte_cmp (rank_key e) (u64 (score_number s))) ≡ not b → rows_from (u64 (score_number s)) (map (λ e. (rank_key e, [])) es) ≡ map (λ e. (rank_key e, [])) (filter (λ e. int_le s e.1) es)
-        → rows_from (u64 (score_number s)) (map (λ e. (rank_key e, [])) (e ∷ es)) ≡ map (λ e. (rank_key e, [])) (cond b (e ∷ filter (λ e. int_le s e.1) es) (filter (λ e. int_le s e.1) es))
+    by_test : (b : Bool) → is_lt (byte_cmp (rank_key e) (u64 (score_number s))) ≡ not b → rows_from_subkey (u64 (score_number s)) (map (λ e. (rank_key e, [])) es) ≡ map (λ e. (rank_key e, [])) (filter (λ e. int_le s e.1) es)
+        → rows_from_subkey (u64 (score_number s)) (map (λ e. (rank_key e, [])) (e ∷ es)) ≡ map (λ e. (rank_key e, [])) (cond b (e ∷ filter (λ e. int_le s e.1) es) (filter (λ e. int_le s e.1) es))
     by_test true is rest = (λ i. cond (not (is i)) ((rank_key e, []) ∷ rest i) (rest i))
     by_test false is rest = (λ i. cond (not (is i)) ((rank_key e, []) ∷ rest i) (rest i))
 
 -- so it is with those of a sorted set
 pub scores_from : (z : Map ℤ) (head : ℕ) (s : ℤ) → HasWholeScores (ZSet z) → IsTrue (fits s)
-    → rows_from (u64 (score_number s)) (value_rows (ZSet z) head Scores) ≡ map (λ e. (rank_key e, [])) (filter (λ e. int_le s e.1) (ranked z))
+    → rows_from_subkey (u64 (score_number s)) (value_rows (ZSet z) head Scores) ≡ map (λ e. (rank_key e, [])) (filter (λ e. int_le s e.1) (ranked z))
 unfolding get
 scores_from z head s whole h = ranks_from (ranked z) s (fit_order z.entries (all_fit z.entries z.sorted whole)) h

@@ -20,7 +20,7 @@ use Rattle.kv_base.specs.RawKeyLaws.{score_number_low}
 use Rattle.subkey_codec.specs.OrderLaws.{by_fronts, numbers_ascend, score_numbers_ascend}
 use Rattle.redis_model.specs.Limits.{IsWholeScore}
 use Rattle.redis_model.specs.Value.{Value, Str, Hash, ListOf, SetOf, ZSet}
-use Rattle.redis_model.specs.SortedSets.{Scored, rank_cmp, in_place, in_order}
+use Rattle.redis_model.specs.SortedSets.{Scored, rank_cmp, in_place, ascending}
 use Rattle.lives_model.specs.Rows.{Side, Elements, Scores}
 use Rattle.lives_model.specs.Means.{HasWholeScores, item_row, score_text, is_scored, member_row, row_of}
 use Rattle.lives_model.specs.PassingLaws.{find_at}
@@ -180,9 +180,9 @@ below_place q e (f ∷ fs) lt h = by_test (is_lt (rank_cmp e f)) (below_place q 
     by_test true rest = both (is_lt (byte_cmp q e.0)) _ lt h
     by_test false rest = both (is_lt (byte_cmp q f.0)) _ (first (is_lt (byte_cmp q f.0)) (below_all byte_cmp q fs) h) rest
 
-below_order : (q : Bytes) (es : List Scored) → T (below_all byte_cmp q es) → T (below_all byte_cmp q (in_order es))
+below_order : (q : Bytes) (es : List Scored) → T (below_all byte_cmp q es) → T (below_all byte_cmp q (ascending es))
 below_order q [] h = tt
-below_order q (e ∷ es) h = below_place q e (in_order es) (first (is_lt (byte_cmp q e.0)) (below_all byte_cmp q es) h) (below_order q es (second (is_lt (byte_cmp q e.0)) (below_all byte_cmp q es) h))
+below_order q (e ∷ es) h = below_place q e (ascending es) (first (is_lt (byte_cmp q e.0)) (below_all byte_cmp q es) h) (below_order q es (second (is_lt (byte_cmp q e.0)) (below_all byte_cmp q es) h))
 
 -- and their scores fit
 fit_place : (e : Scored) (es : List Scored) → IsTrue (fits e.1) → ScoresFit es → ScoresFit (in_place e es)
@@ -193,9 +193,9 @@ fit_place e (f ∷ fs) h all = by_test (is_lt (rank_cmp e f)) (fit_place e fs h 
     by_test true rest = (h, all)
     by_test false rest = (all.0, rest)
 
-pub fit_order : (es : List Scored) → ScoresFit es → ScoresFit (in_order es)
+pub fit_order : (es : List Scored) → ScoresFit es → ScoresFit (ascending es)
 fit_order [] all = tt
-fit_order (e ∷ es) all = fit_place e (in_order es) all.0 (fit_order es all.1)
+fit_order (e ∷ es) all = fit_place e (ascending es) all.0 (fit_order es all.1)
 
 -- different members tie in no rank
 no_tie : (o p : Ordering) → p ≡ Less → ordering_then o p ≡ Equal → ⊥
@@ -218,10 +218,10 @@ place_is_put e (f ∷ fs) h all below =
     by_rank Greater is rest = ap (λ rows. (rank_key f, []) ∷ rows) rest
 
 -- so the members by rank are their rows, put one by one
-order_is_put : (es : List Scored) → ScoresFit es → T (is_sorted byte_cmp es) → rank_rows (in_order es) ≡ put_all es
+order_is_put : (es : List Scored) → ScoresFit es → T (is_sorted byte_cmp es) → rank_rows (ascending es) ≡ put_all es
 order_is_put [] all h = refl
 order_is_put (e ∷ es) all h =
-    place_is_put e (in_order es) all.0 (fit_order es all.1) (below_order e.0 es (first (below_all byte_cmp e.0 es) (is_sorted byte_cmp es) h))
+    place_is_put e (ascending es) all.0 (fit_order es all.1) (below_order e.0 es (first (below_all byte_cmp e.0 es) (is_sorted byte_cmp es) h))
     ∙ ap (put byte_cmp (rank_key e) []) (order_is_put es all.1 (second (below_all byte_cmp e.0 es) (is_sorted byte_cmp es) h))
 
 sorted_put : (es : List Scored) → T (is_sorted byte_cmp (put_all es))

@@ -32,8 +32,8 @@ value_rows (ZSet z) head Scores = map (λ e. (rank_key e, [])) (ranked z)
 value_rows _ head side = []
 
 -- those from a subkey on
-abbrev pub rows_from : Bytes → List RowAt → List RowAt
-rows_from x rows = filter (λ row. not (is_lt (byte_cmp row.0 x))) rows
+abbrev pub rows_from_subkey : Bytes → List RowAt → List RowAt
+rows_from_subkey x rows = filter (λ row. not (is_lt (byte_cmp row.0 x))) rows
 
 -- and as they stand in a life
 abbrev pub in_life : Side → Bytes → ℕ → List RowAt → List (Bytes × Bytes)

@@ -12,7 +12,7 @@ use Rattle.std.specs.Cmp.Lexicographic.{nat_list_cmp_total, slice_cmp}
 use Rattle.std.specs.FinMap.Entries.{find, is_sorted, below_all, is_sorted-where_key, find-where_key, same_entries}
 use Rattle.kv_base.specs.Map.{Bytes, byte_cmp, Map, exact, get}
 use Rattle.kv_base.specs.InversionLaws.{if_is, both_first, both_second}
-use Rattle.lives_model.specs.Passing.{passing, above, asked}
+use Rattle.lives_model.specs.Passing.{passing, above, is_asked}
 use Rattle.kv_base.specs.TestLaws.{first, second, both, less, is_less}
 
 -- an order is what its test says
@@ -203,7 +203,7 @@ not_below_next (a ∷ q) (b ∷ k) = by_first (nat_cmp a b) (not_below_next q k)
     by_first Greater e = refl
 
 -- what is asked for above a raw key is what is asked for from the next bytes on
-asked_next : (from prefix k q : Bytes) → asked from prefix k ≡ true → above (asked from prefix) k q ≡ asked (k ++ 0 ∷ []) prefix q
+asked_next : (from prefix k q : Bytes) → is_asked from prefix k ≡ true → above (is_asked from prefix) k q ≡ is_asked (k ++ 0 ∷ []) prefix q
 asked_next from prefix k q here =
     by_order (byte_cmp q k) refl ∙ ap (λ b. starts_with nat_eq q prefix && b) (sym (not_below_next q k))
   where
@@ -223,18 +223,18 @@ asked_next from prefix k q here =
         by_from Equal f = refl
         by_from Greater f = refl
 
-    by_order : (o : Ordering) → byte_cmp q k ≡ o → (asked from prefix q && is_gt o) ≡ (starts_with nat_eq q prefix && is_gt o)
-    by_order Less e = and_false (asked from prefix q) ∙ sym (and_false (starts_with nat_eq q prefix))
-    by_order Equal e = and_false (asked from prefix q) ∙ sym (and_false (starts_with nat_eq q prefix))
+    by_order : (o : Ordering) → byte_cmp q k ≡ o → (is_asked from prefix q && is_gt o) ≡ (starts_with nat_eq q prefix && is_gt o)
+    by_order Less e = and_false (is_asked from prefix q) ∙ sym (and_false (starts_with nat_eq q prefix))
+    by_order Equal e = and_false (is_asked from prefix q) ∙ sym (and_false (starts_with nat_eq q prefix))
     by_order Greater e =
-        and_true (asked from prefix q) ∙ ap (λ b. starts_with nat_eq q prefix && b) (not_below e)
+        and_true (is_asked from prefix q) ∙ ap (λ b. starts_with nat_eq q prefix && b) (not_below e)
 
 -- behind a page stands what is asked for from its last raw key on, and a byte more
 pub next_of : {X : Type 0} (m : Map X) (from prefix : Bytes) (ys : List (Bytes × X)) (k : Bytes) (v : X) (es : List (Bytes × X))
-    → passing (asked from prefix) m ≡ ys ++ (k, v) ∷ es → es ≡ passing (asked (k ++ 0 ∷ []) prefix) m
+    → passing (is_asked from prefix) m ≡ ys ++ (k, v) ∷ es → es ≡ passing (is_asked (k ++ 0 ∷ []) prefix) m
 next_of m from prefix ys k v es is =
-    let behind = split_of ys (asked from prefix) m k v es is in
-    behind.0 ∙ passing_same (above (asked from prefix) k) (asked (k ++ 0 ∷ []) prefix) m (λ q. asked_next from prefix k q behind.1)
+    let behind = split_of ys (is_asked from prefix) m k v es is in
+    behind.0 ∙ passing_same (above (is_asked from prefix) k) (is_asked (k ++ 0 ∷ []) prefix) m (λ q. asked_next from prefix k q behind.1)
 
 -- where nothing that passes is in the map, none pass
 pub nothing_is : {X : Type 0} (p : Bytes → Bool) (m : Map X) → ((q : Bytes) → p q ≡ true → get m q ≡ None) → passing p m ≡ []

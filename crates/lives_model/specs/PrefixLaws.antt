@@ -8,7 +8,7 @@ use Rattle.std.specs.Ordering.{is_lt, is_eq}
 use Rattle.std.specs.FinMap.Entries.{find, is_sorted, below_all, is_sorted-where_key, find-where_key}
 use Rattle.kv_base.specs.Map.{Bytes, Map, byte_cmp, same, same_is, exact, get}
 use Rattle.subkey_codec.specs.OrderLaws.{behind_front}
-use Rattle.lives_model.specs.Passing.{passing, asked}
+use Rattle.lives_model.specs.Passing.{passing, is_asked}
 use Rattle.lives_model.specs.PassingLaws.{passing_is}
 use Rattle.kv_base.specs.TestLaws.{first, second, both}
 
@@ -77,8 +77,8 @@ module _ {X : Type 0} (prefix : Bytes) where
 
   -- A map that has behind the prefix what a list in order has, has from a key behind it on what the list has from there on.
   pub passing_under : (m : Map X) (rows : List (Bytes × X)) (x : Bytes) → T (is_sorted byte_cmp rows) → ((q : Bytes) → get m (prefix ++ q) ≡ find byte_cmp q rows)
-      → passing (asked (prefix ++ x) prefix) m ≡ under (filter (λ row. not (is_lt (byte_cmp row.0 x))) rows)
-  passing_under m rows x sorted is = passing_is (asked (prefix ++ x) prefix) m (under left) (sorted-under left (is_sorted-where_key byte_cmp from rows sorted)) (λ q. by_start q (starts_with nat_eq q prefix) refl)
+      → passing (is_asked (prefix ++ x) prefix) m ≡ under (filter (λ row. not (is_lt (byte_cmp row.0 x))) rows)
+  passing_under m rows x sorted is = passing_is (is_asked (prefix ++ x) prefix) m (under left) (sorted-under left (is_sorted-where_key byte_cmp from rows sorted)) (λ q. by_start q (starts_with nat_eq q prefix) refl)
     where
       from : Bytes → Bool
       from q = not (is_lt (byte_cmp q x))
@@ -86,7 +86,7 @@ module _ {X : Type 0} (prefix : Bytes) where
       left : List (Bytes × X)
       left = filter (λ row. from row.0) rows
 
-      behind : (q : Bytes) → find byte_cmp (prefix ++ q) (under left) ≡ cond (asked (prefix ++ x) prefix (prefix ++ q)) (get m (prefix ++ q)) None
+      behind : (q : Bytes) → find byte_cmp (prefix ++ q) (under left) ≡ cond (is_asked (prefix ++ x) prefix (prefix ++ q)) (get m (prefix ++ q)) None
       behind q =
           find-under q left
           ∙ find-where_key byte_cmp from q (λ k e. ap from (sym (exact q k e))) rows
@@ -110,8 +110,8 @@ module _ {X : Type 0} (prefix : Bytes) where
       none_below (b ∷ q) = refl
 
   -- so from the prefix on it has all of the list
-  pub passing_all : (m : Map X) (rows : List (Bytes × X)) → T (is_sorted byte_cmp rows) → ((q : Bytes) → get m (prefix ++ q) ≡ find byte_cmp q rows) → passing (asked prefix prefix) m ≡ under rows
+  pub passing_all : (m : Map X) (rows : List (Bytes × X)) → T (is_sorted byte_cmp rows) → ((q : Bytes) → get m (prefix ++ q) ≡ find byte_cmp q rows) → passing (is_asked prefix prefix) m ≡ under rows
   passing_all m rows sorted is =
-      ap (λ (from : Bytes). passing (asked from prefix) m) (sym (append-nil prefix))
+      ap (λ (from : Bytes). passing (is_asked from prefix) m) (sym (append-nil prefix))
       ∙ passing_under m rows [] sorted is
       ∙ ap under (all_from_none rows)

@@ -46,8 +46,8 @@ pub in_front : (ks js : List Bytes) (k : Bytes) → among ks k ≡ true → amon
 in_front ks js k h = among-append ks js k ∙ or_left (among ks k) (among js k) h
 
 -- and so is one among the second
-pub behind : (ks js : List Bytes) (k : Bytes) → among js k ≡ true → among (ks ++ js) k ≡ true
-behind ks js k h = among-append ks js k ∙ or_right (among ks k) (among js k) h
+pub among_second : (ks js : List Bytes) (k : Bytes) → among js k ≡ true → among (ks ++ js) k ≡ true
+among_second ks js k h = among-append ks js k ∙ or_right (among ks k) (among js k) h
 
 -- one of two tests has passed
 pub either_passed : {A : Type 0} (a b : Bool) → (a || b) ≡ true → (a ≡ true → A) → (b ≡ true → A) → A
@@ -65,7 +65,7 @@ touched_in_is_named m t (Many ds) k h = each m ds h
         let rest = touched_each (apply_alive m t d).1 t ds in
         either_passed (among (touched m t d) k) (among rest k) (sym (among-append (touched m t d) rest k) ∙ h)
         (λ here. in_front (keys_of d) (keys_of_each ds) k (touched_is_named m t d k here))
-        (λ later. behind (keys_of d) (keys_of_each ds) k (each (apply_alive m t d).1 ds later))
+        (λ later. among_second (keys_of d) (keys_of_each ds) k (each (apply_alive m t d).1 ds later))
 
 -- ---- rows of touched keys alone
 
@@ -83,7 +83,7 @@ parts_touch c t base i m (d ∷ ds) b [] all are within own raw there = absurd a
 parts_touch c t base i m (d ∷ ds) b (p ∷ ps) all are within own raw there =
     let later = touched_each (apply_alive m t d).1 t ds in
     parts_touch (after c p.batch) t base (i + 1) (apply_alive m t d).1 ds (joined b p.batch) ps all are.1
-    (λ k h. within k (behind (touched m t d) later k h))
+    (λ k h. within k (among_second (touched m t d) later k h))
     (λ raw there. either_passed (is_some (get p.batch raw)) (is_some (get b raw)) (sym (joined_some b p.batch raw) ∙ there)
     (λ new. widened (touched m t d) all raw (λ k h. within k (in_front (touched m t d) later k h)) (step_touches c t (version base i) m d p.batch p.reply are.0.step raw new))
     (λ old. own raw old))

@@ -14,7 +14,7 @@ use Rattle.batch_codec.specs.Batches.{Batch, after}
 use Rattle.batch_codec.specs.Bodies.{body_of, is_seq, is_moment}
 use Rattle.batch_codec.specs.BodyLaws.{IsWritable}
 use Rattle.batch_codec.specs.declared.record.Record.{Record}
-use Rattle.wal_log.specs.Segments.{is_next, record_behind, records_of, last_behind}
+use Rattle.wal_log.specs.Segments.{is_next_record, record_behind, records_of, last_behind}
 use Rattle.wal_log.specs.SegmentLaws.{segment_of-records, records_of-push, record_behind-written}
 use Rattle.wal_log.specs.declared.segment.Stamp.{Stamp}
 use Rattle.redis_model.specs.declared.command.Cmds.{Cmds}
@@ -35,8 +35,8 @@ with_records-push : (before : Recovered) (rs : List Record) (r : Record) → wit
 with_records-push before [] r = refl
 with_records-push before (s ∷ rs) r = with_records-push (with_record before s) rs r
 
-may_follow : (last : Stamp) (state : Recovered) (r : Record) → last ≡ stamp_in state → r.seq ≡ state.sequence + 1 → state.floor ≤ r.moment → is_next last r ≡ true
-may_follow last state r is next later = ap (λ (s : Stamp). is_next s r) is ∙ follows state.sequence state.floor r.seq r.moment next later
+may_follow : (last : Stamp) (state : Recovered) (r : Record) → last ≡ stamp_in state → r.seq ≡ state.sequence + 1 → state.floor ≤ r.moment → is_next_record last r ≡ true
+may_follow last state r is next later = ap (λ (s : Stamp). is_next_record s r) is ∙ follows state.sequence state.floor r.seq r.moment next later
   where
     follows : (m t n u : ℕ) → n ≡ m + 1 → t ≤ u → ((n == m + 1) && nat_le t u) ≡ true
     follows m t n u next later = grind (arith, nat_tests)

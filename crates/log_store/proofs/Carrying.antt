@@ -21,7 +21,7 @@ use Rattle.lives_model.specs.StepLaws.{alive_means}
 use Rattle.log_store.specs.Planned.{IsBatchOf, IsPlannedNext}
 use Rattle.log_store.specs.Recover.{Recovered, with_batch}
 use Rattle.log_store.specs.Keeping.{log_file, state_of, HoldsKeys, IsKept, KeptState, StandsFor, ComesTo, ComesToEither, ComesToKeys}
-use Rattle.log_store.specs.KeepLaws.{comes_to_keys, holds_after, holds_alike, stands_later, stands_mean}
+use Rattle.log_store.specs.KeepLaws.{comes_to_keys, holds_after, holds_alike, keys_stand_later, stands_mean}
 use Rattle.log_store.specs.Playing.{entry, batches, planned_for, IsBeforeOrAfter, IsBodyOfPlan, Plays}
 use Rattle.log_store.specs.PlayLaws.{none_planned, not_none, some_batch}
 use Rattle.log_store.proofs.Appending.{kept_still, still_comes}
@@ -95,7 +95,7 @@ module _ (old mid : KeptState) (now : ℕ) (ds : Cmds) (b : Batch) (answer : Rep
   holds_then : HoldsKeys (with_batch (state_of old) b (moment_at s now)) (fold (at_moment s now).keys (moment_at s now) ds).1
   holds_then =
       subst (λ (m : RedisMap). HoldsKeys (with_batch (state_of old) b (moment_at s now)) (fold m (moment_at s now) ds).1)
-      (sym (stands_later old s stands (moment_at s now) (omega (arith, stands.floor))))
+      (sym (keys_stand_later old s stands (moment_at s now) (omega (arith, stands.floor))))
       (holds_after (state_of old) stands.at_last_batch ds b (moment_at s now) stands.holds (omega (arith, stands.past, stands.floor))
       (record { answer = answer; until = until; asked = plan.asked; plan = planned_at }))
 
@@ -163,7 +163,7 @@ body_is_planned old mid now ds b answer until moment planned plan is s stands =
 keys_before : (old : KeptState) (s : State) (now : ℕ) → StandsFor old s → (c : Bytes) → ComesTo (state_of old) c → ComesToKeys (moment_at s now) (at_moment s now).keys c
 keys_before old s now stands =
     comes_to_keys (state_of old) (moment_at s now) stands.at_last_batch (at_moment s now).keys stands.holds (omega (arith, stands.past, stands.floor))
-    (stands_later old s stands (moment_at s now) (omega (arith, stands.floor)))
+    (keys_stand_later old s stands (moment_at s now) (omega (arith, stands.floor)))
 
 -- the log comes to the keys before a call, or to those after it
 pub keys_come : (before now_disk : Disk) (old mid : KeptState) (now : ℕ) (ds : Cmds) (b : Batch) (answer : Reply) (until : Option ℕ) (moment : ℕ) → IsPlanAt old mid now ds b answer until moment

@@ -3,7 +3,7 @@ use Rattle.std.proofs.Common.{◌≡◌, ℕ, zero, suc, ◌+◌, ◌<◌, ◌�
 use Rattle.std.specs.Prelude.{nat_le, nat_eq, not, ◌&&◌, IsTrue, filter}
 use Rattle.std.proofs.lemmas.List.{length-append, take-append-le, take_all}
 use Rattle.std.specs.Cmp.Lexicographic.{nat_list_cmp_total}
-use Rattle.batch_codec.specs.EntryListLaws.{under}
+use Rattle.batch_codec.specs.EntryListLaws.{is_under}
 use Rattle.std.specs.List.{Contains, list_all, prefix_len, slice_get, starts_with}
 use Rattle.std.specs.List.Sorted.{IsPartitionPoint}
 use Rattle.std.specs.declared.cmp.Ordering.{Ordering}
@@ -110,7 +110,7 @@ not_under from prefix raw = by_test (is_lt (byte_cmp from prefix)) refl
     turned : (o : Ordering) → byte_cmp prefix from ≡ o → is_lt (byte_cmp from prefix) ≡ false → byte_cmp raw prefix ≡ Less → byte_cmp raw from ≡ Less
     turned Less e test f = nat_list_cmp_total.trans raw prefix from f e
     turned Equal e test f = subst (λ (k : Bytes). byte_cmp raw k ≡ Less) (exact prefix from e) f
-    turned Greater e test f = absurd (never_less (byte_cmp from prefix) test (under prefix from e))
+    turned Greater e test f = absurd (never_less (byte_cmp from prefix) test (is_under prefix from e))
 
     by_test : (b : Bool) → is_lt (byte_cmp from prefix) ≡ b → is_lt (byte_cmp raw (cond b prefix from)) ≡ false → IsNotUnder from prefix raw
     by_test true t e = record {

@@ -13,7 +13,7 @@ use Rattle.batch_codec.specs.BodyLaws.{only_body_is_read}
 use Rattle.batch_codec.specs.declared.record.Record.{Record}
 use Rattle.wal_log.specs.Reads.{IsFound, ReadsFile}
 use Rattle.wal_log.specs.ReadLaws.{found_leaves}
-use Rattle.wal_log.specs.Segments.{stamp_of, is_next, record_behind, with_first, records_from, records_of, last_behind, segment_of}
+use Rattle.wal_log.specs.Segments.{stamp_of, is_next_record, record_behind, with_first, records_from, records_of, last_behind, segment_of}
 use Rattle.wal_log.specs.declared.segment.Found.{Found}
 use Rattle.wal_log.specs.declared.segment.Stamp.{Stamp}
 use Rattle.redis_model.specs.Desk.{last_sequence}
@@ -56,23 +56,23 @@ pub record IsWithin (state : Recovered) : Type 0 where
 
 -- a record that was read: it may stand behind the last one, and it is within the limits
 record IsReadBehind (last : Stamp) (body : Bytes) (r : Record) : Type 0 where
-  pub next : is_next last r ≡ true
+  pub next : is_next_record last r ≡ true
   pub is : read_body body ≡ Some r
 
 read_behind : (last : Stamp) (body : Bytes) (r : Record) → record_behind last body ≡ Some r → IsReadBehind last body r
 unfolding record_behind
 read_behind last body r is = by_read (read_body body) refl is
   where
-    by_test : (b : Bool) (n : Record) → is_next last n ≡ b → read_body body ≡ Some n → (if b then Some n else None) ≡ Some r → IsReadBehind last body r
-    by_test true n test was e = record { next = ap (is_next last) (same n e) ∙ test; is = was ∙ e }
+    by_test : (b : Bool) (n : Record) → is_next_record last n ≡ b → read_body body ≡ Some n → (if b then Some n else None) ≡ Some r → IsReadBehind last body r
+    by_test true n test was e = record { next = ap (is_next_record last) (same n e) ∙ test; is = was ∙ e }
       where
         same : (n : Record) → Some n ≡ Some r → r ≡ n
         same n e = cc
     by_test false n test was e = absurd (cc)
 
-    by_read : (o : Option Record) → read_body body ≡ o → option_and_then (λ next. if is_next last next then Some next else None) o ≡ Some r → IsReadBehind last body r
+    by_read : (o : Option Record) → read_body body ≡ o → option_and_then (λ next. if is_next_record last next then Some next else None) o ≡ Some r → IsReadBehind last body r
     by_read None is e = absurd (cc)
-    by_read (Some n) is e = by_test (is_next last n) n refl is e
+    by_read (Some n) is e = by_test (is_next_record last n) n refl is e
 
 at_most : (low high n : ℕ) → IsTrue (nat_le low n && nat_le n high) → n ≤ high
 at_most low high n e = grind (arith, nat_tests)
@@ -97,7 +97,7 @@ in_order last body r is =
       rises = rises last read.next;
     }
   where
-    rises : (last : Stamp) → is_next last r ≡ true → nat_lt last.seq r.seq ≡ true
+    rises : (last : Stamp) → is_next_record last r ≡ true → nat_lt last.seq r.seq ≡ true
     rises l next =
         let step = both_first (r.seq == l.seq + 1) (nat_le l.moment r.moment) next in
         grind (arith, nat_tests)

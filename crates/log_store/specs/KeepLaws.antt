@@ -33,8 +33,8 @@ pub stands_alive : (store : KeptState) (s : State) → StandsFor store s → ali
 stands_alive store s stands = ap (alive s.keys) stands.floor ∙ alive_means store.rows store.floor s.keys (stands_mean store s stands)
 
 -- what is alive of the keys later is what is alive then of the map at the last batch
-pub stands_later : (store : KeptState) (s : State) (stands : StandsFor store s) (moment : ℕ) → store.floor ≤ moment → alive s.keys moment ≡ alive stands.at_last_batch moment
-stands_later store s stands moment later =
+pub keys_stand_later : (store : KeptState) (s : State) (stands : StandsFor store s) (moment : ℕ) → store.floor ≤ moment → alive s.keys moment ≡ alive stands.at_last_batch moment
+keys_stand_later store s stands moment later =
     means_one store.rows moment (alive s.keys moment) (alive stands.at_last_batch moment)
     (means_later store.rows store.floor moment s.keys later (stands_mean store s stands))
     (means_later store.rows store.written moment stands.at_last_batch (omega (arith, stands.past)) stands.holds.means)

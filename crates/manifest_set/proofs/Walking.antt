@@ -6,7 +6,7 @@ use Rattle.gated_log.specs.RecordLaws.{records-gated, ends_records}
 use Rattle.gated_log.specs.Walk.{IsPassed, StandsAt}
 use Rattle.gated_log.specs.WalkLaws.{walk_begins, walk_goes_on, walk_ends}
 use Rattle.edit_codec.specs.declared.state.State.{State}
-use Rattle.manifest_set.specs.Slots.{said, said_by, slot_of}
+use Rattle.manifest_set.specs.Slots.{said_behind, said_by, slot_of}
 use Rattle.manifest_set.specs.SlotLaws.{said_by-none, said_by-push, said_by-damage}
 
 -- records before this place say this
@@ -19,7 +19,7 @@ pub record IsWalked (taken place : ℕ) (says : Option State) (bytes : Bytes) : 
 pub begins : (taken : ℕ) (bytes : Bytes) → IsWalked taken 0 None bytes
 begins taken bytes = record { within = omega arith; bodies = []; passed = walk_begins bytes; read = said_by-none taken }
 
-pub goes_on : (taken place next : ℕ) (says : Option State) (now : State) (body bytes : Bytes) → IsWalked taken place says bytes → StandsAt place next body bytes → next ≤ length bytes → Some now ≡ said taken says body
+pub goes_on : (taken place next : ℕ) (says : Option State) (now : State) (body bytes : Bytes) → IsWalked taken place says bytes → StandsAt place next body bytes → next ≤ length bytes → Some now ≡ said_behind taken says body
     → IsWalked taken next (Some now) bytes
 goes_on taken place next says now body bytes was stands within read = record {
   within = within;
@@ -28,7 +28,7 @@ goes_on taken place next says now body bytes was stands within read = record {
   read = said_by-push taken was.bodies says now body was.read (sym read);
 }
 
-pub damaged : (taken place : ℕ) (says : Option State) (body bytes : Bytes) (more : List Bytes) → IsWalked taken place says bytes → records (drop place bytes) ≡ body ∷ more → None ≡ said taken says body → slot_of taken bytes ≡ Err place
+pub damaged : (taken place : ℕ) (says : Option State) (body bytes : Bytes) (more : List Bytes) → IsWalked taken place says bytes → records (drop place bytes) ≡ body ∷ more → None ≡ said_behind taken says body → slot_of taken bytes ≡ Err place
 damaged taken place says body bytes more was here damage =
     ap (said_by taken) (ap records was.passed.is ∙ records-gated was.bodies (drop place bytes) was.passed.at.fits ∙ ap (λ (bs : List Bytes). was.bodies ++ bs) here)
     ∙ said_by-damage taken was.bodies more says body was.read (sym damage)

@@ -13,7 +13,7 @@ use Rattle.gated_log.specs.States as states
 use Rattle.gated_log.specs.StillLaws.{others_show, rests_records}
 use Rattle.edit_codec.specs.States.{new_state}
 use Rattle.edit_codec.specs.declared.state.State.{State}
-use Rattle.manifest_set.specs.Slots.{edited, said_by, slot_of, manifest_state, epoch_of, other_slot, IsSlot}
+use Rattle.manifest_set.specs.Slots.{edited_state, said_by, slot_of, manifest_state, epoch_of, other_slot, IsSlot}
 use Rattle.manifest_set.specs.SlotLaws.{edited_keeps, said_by-edited, first_says, second_says}
 use Rattle.manifest_set.specs.Keeping.{SaysEarlierEpoch, IsManifestKept, IsManifestTried, IsManifestLeft, LeavesBehind, SaysBeforeOrAfter}
 
@@ -75,7 +75,7 @@ edit_not_tried old new log before kept run =
     run_widen log.name old new (λ c. records c ≡ kept.bodies) (λ files. manifest_state files ≡ Ok before) run (λ image here others.
     files_say image log.name (Some before) kept.is_slot (ap (said_by 0) here ∙ kept.says) (kept.behind.each (image (other_slot log.name)) (others (other_slot log.name) (other_differs log.name kept.is_slot))))
 
-module _ (old new : Disk) (log now : LogState) (before after : State) (body : Bytes) (kept : IsManifestKept old log before) (takes : edited before body ≡ Some after) where
+module _ (old new : Disk) (log now : LogState) (before after : State) (body : Bytes) (kept : IsManifestKept old log before) (takes : edited_state before body ≡ Some after) where
   same_epoch : before.epoch ≤ after.epoch
   same_epoch = omega (arith, edited_keeps before after body takes)
 

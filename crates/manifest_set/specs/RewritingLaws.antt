@@ -11,8 +11,8 @@ use Rattle.kv_outside.specs.RunLaws.{run_widen, run_weaken, others_leave, begin_
 use Rattle.gated_log.specs.Gated.{records, EndsAt}
 use Rattle.gated_log.specs.RecordLaws.{ends_records}
 use Rattle.gated_log.specs.States.{LogState, Rests}
-use Rattle.edit_codec.specs.Records.{read_head}
-use Rattle.edit_codec.specs.States.{new_state, with_epoch, last_epoch, is_head}
+use Rattle.edit_codec.specs.Records.{read_state_head}
+use Rattle.edit_codec.specs.States.{new_state, with_epoch, last_epoch, is_state_head}
 use Rattle.edit_codec.specs.declared.state.State.{State}
 use Rattle.manifest_set.specs.Slots.{said_by, slot_of, manifest_state, epoch_of, other_slot, IsSlot}
 use Rattle.manifest_set.specs.SlotLaws.{said_by-none, said_by-head, raised_is_head}
@@ -43,7 +43,7 @@ module _ (old new : Disk) (slots : Slots) (has : Has old (AreFoundSlots slots)) 
 
   -- ---- into the other slot
 
-  module _ (head : Bytes) (raised : State) (reads : read_head head ≡ Some raised) (later : epoch_of has.are.says < raised.epoch) where
+  module _ (head : Bytes) (raised : State) (reads : read_state_head head ≡ Some raised) (later : epoch_of has.are.says < raised.epoch) where
     says_raised : said_by 0 (head ∷ []) ≡ Ok (Some raised)
     says_raised = said_by-head 0 head raised reads (λ none. absurd (omega (arith, later, none)))
 
@@ -57,8 +57,8 @@ module _ (old new : Disk) (slots : Slots) (has : Has old (AreFoundSlots slots)) 
         (λ (before : records (image (other_slot slots.active)) ≡ records other_bytes). inl (still_says image own (record { other = has.are.behind.other; says = ap (said_by 0) before ∙ has.are.behind.says; outdone = has.are.behind.outdone })))
         (λ (changed : (records (image (other_slot slots.active)) ≡ []) ⊎ (records (image (other_slot slots.active)) ≡ head ∷ [])). ⊎_elim
         (λ (none : records (image (other_slot slots.active)) ≡ []). inl (still_says image own (record { other = None; says = ap (said_by 0) none ∙ said_by-none 0; outdone = inl refl })))
-        (λ (is_head : records (image (other_slot slots.active)) ≡ head ∷ []). inr
-        (files_say image (other_slot slots.active) (Some raised) (other_is_slot slots.active) (ap (said_by 0) is_head ∙ says_raised)
+        (λ (is_state_head : records (image (other_slot slots.active)) ≡ head ∷ []). inr
+        (files_say image (other_slot slots.active) (Some raised) (other_is_slot slots.active) (ap (said_by 0) is_state_head ∙ says_raised)
         (record { other = has.are.says; says = ap (slot_of 0) (ap image (other_of_other slots.active has.are.is_slot) ∙ own) ∙ has.are.own; outdone = inr later })))
         changed)
         here)
@@ -178,13 +178,13 @@ module _ (old new : Disk) (slots : Slots) (has : Has old (AreFoundSlots slots)) 
         above : (m n : ℕ) → n < m → nat_le m n ≡ false
         above m n lt = grind (arith, nat_tests)
 
-    limits : is_head raised_state ≡ true
-    limits = (λ i. is_head (with_epoch (epoch_is i + 1) (has.are.state i))) ∙ raised
+    limits : is_state_head raised_state ≡ true
+    limits = (λ i. is_state_head (with_epoch (epoch_is i + 1) (has.are.state i))) ∙ raised
       where
-        raised : is_head (with_epoch (epoch_of has.are.says + 1) (unwrap_or has.are.says new_state)) ≡ true
+        raised : is_state_head (with_epoch (epoch_of has.are.says + 1) (unwrap_or has.are.says new_state)) ≡ true
         raised = raised_is_head (records own_bytes) has.are.says has.are.own (omega (arith, low, epoch_is))
 
-    module _ (head : Bytes) (reads : is_head raised_state ≡ true → read_head head ≡ Some raised_state)
+    module _ (head : Bytes) (reads : is_state_head raised_state ≡ true → read_state_head head ≡ Some raised_state)
         (any_moment : (bodies : List Bytes) → CrashLeaves old (other_slot slots.active) (λ c. records c ≡ bodies) → Touches (other_slot slots.active) old new (IsBeforeOrHead bodies head)) where
       later : epoch_of has.are.says < raised_state.epoch
       later = omega (arith, epoch_is)

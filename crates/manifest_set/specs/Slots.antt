@@ -5,30 +5,30 @@ use Rattle.kv_base.specs.Map.{Bytes}
 use Rattle.kv_base.specs.declared.name.FileName.{FileName}
 use Rattle.kv_base.specs.declared.name.FileName.TheVariants.{SlotA, SlotB}
 use Rattle.gated_log.specs.Gated.{records}
-use Rattle.edit_codec.specs.Records.{read_edit, read_head}
+use Rattle.edit_codec.specs.Records.{read_edit, read_state_head}
 use Rattle.edit_codec.specs.States.{new_state, state_after}
 use Rattle.edit_codec.specs.declared.state.State.{State}
 
 -- ---- one slot
 
 -- the state of a head with this body, where its epoch is not taken already
-abbrev pub begun : ℕ → Bytes → Option State
-begun taken body = option_and_then (λ state. if state.epoch == taken then None else Some state) (read_head body)
+abbrev pub begun_state : ℕ → Bytes → Option State
+begun_state taken body = option_and_then (λ state. if state.epoch == taken then None else Some state) (read_state_head body)
 
 -- the state after the edit with this body
-abbrev pub edited : State → Bytes → Option State
-edited state body = option_and_then (state_after state) (read_edit body)
+abbrev pub edited_state : State → Bytes → Option State
+edited_state state body = option_and_then (state_after state) (read_edit body)
 
 -- what a record says behind the last state: the first one is a head, each further one an edit
-unfoldable pub said : ℕ → Option State → Bytes → Option State
-said taken None body = begun taken body
-said taken (Some state) body = edited state body
+unfoldable pub said_behind : ℕ → Option State → Bytes → Option State
+said_behind taken None body = begun_state taken body
+said_behind taken (Some state) body = edited_state state body
 
 -- What these bodies say behind the last state, where the first gate stands at this place; or the place of the gate of the
 -- first that is damage. A gate and a length take five bytes.
 unfoldable pub said_from : ℕ → ℕ → Option State → List Bytes → Result (Option State) ℕ
 said_from taken place last [] = Ok last
-said_from taken place last (body ∷ bodies) = option_map_or (λ now. said_from taken (place + 5 + length body) (Some now) bodies) (said taken last body) (Err place)
+said_from taken place last (body ∷ bodies) = option_map_or (λ now. said_from taken (place + 5 + length body) (Some now) bodies) (said_behind taken last body) (Err place)
 
 -- what a slot with these bodies says: no state where it has no record
 unfoldable pub said_by : ℕ → List Bytes → Result (Option State) ℕ

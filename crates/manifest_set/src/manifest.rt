@@ -7,7 +7,7 @@ ghost use Rattle.gated_log.specs.States.{Rests};
 ghost use Rattle.edit_codec.specs.declared.state.State.{State};
 ghost use Rattle.manifest_set.specs.Keeping.{Has, SaysBeforeOrAfter, AreFoundSlots, IsManifestKept, IsManifestLeft, IsManifestTried, NeverDamaged, ReadsSlots, next_state};
 ghost use Rattle.manifest_set.specs.Rewriting.{IsBeforeOrHead, TouchesSlot};
-ghost use Rattle.manifest_set.specs.Slots.{edited, other_slot, manifest_state};
+ghost use Rattle.manifest_set.specs.Slots.{edited_state, other_slot, manifest_state};
 
 use crate::read::read_both;
 use crate::slots::Slots;
@@ -120,17 +120,17 @@ impl<F: Files> Manifest<F> {
     /// the gate has to be closed by `mend` before the next edit.
     pub fn append_edit(&mut self, files: &mut F, edit: &RecordBody) -> Result<(), Failed>
         requires { self.old.unsure ≡ false }
-        ensures added { OnOk result ((before : State) (after : State) → IsManifestKept (F.disk files.old) self.old before → edited before edit.now ≡ Some after
+        ensures added { OnOk result ((before : State) (after : State) → IsManifestKept (F.disk files.old) self.old before → edited_state before edit.now ≡ Some after
             → IsManifestKept (F.disk files.new) self.new after) }
         ensures written { OnOk result ((bodies : List Bytes) → Rests (F.disk files.old) self.old bodies
             → Rests (F.disk files.new) self.new (bodies ++ edit.now ∷ [])) }
         ensures sure { OnOk result (self.new.unsure ≡ false) }
-        ensures not_added { OnErr result ((before : State) (after : State) → IsManifestKept (F.disk files.old) self.old before → edited before edit.now ≡ Some after
+        ensures not_added { OnErr result ((before : State) (after : State) → IsManifestKept (F.disk files.old) self.old before → edited_state before edit.now ≡ Some after
             → IsManifestLeft self.new.unsure (F.disk files.new) self.new before after) }
         ensures name { self.new.name ≡ self.old.name }
 
         // At every moment of the call the slots of each image say the state from before it, or the one after it.
-        ensures any_moment { (before : State) (after : State) → IsManifestKept (F.disk files.old) self.old before → edited before edit.now ≡ Some after
+        ensures any_moment { (before : State) (after : State) → IsManifestKept (F.disk files.old) self.old before → edited_state before edit.now ≡ Some after
             → Always (F.disk files.old) (F.disk files.new) (SaysBeforeOrAfter before after) }
         // Where the gate was not tried, they say the one from before it.
         ensures not_tried { OnErr result (self.new.unsure ≡ false → (before : State) → IsManifestKept (F.disk files.old) self.old before

@@ -3,7 +3,7 @@ ghost use Rattle.std.specs.Prelude.{◌≡◌, IfOk};
 ghost use Rattle.std.specs.Option.{option_copied, unwrap_or};
 ghost use Rattle.edit_codec.specs.States.{new_state};
 ghost use Rattle.manifest_set.specs.Reading.{ReadsOne, ReadsBoth, at_slot, newer_slot};
-ghost use Rattle.manifest_set.specs.Slots.{begun as begun_of, edited as edited_of, epoch_of, said};
+ghost use Rattle.manifest_set.specs.Slots.{begun_state as begun_of, edited_state as edited_of, epoch_of, said_behind};
 
 use crate::slots::Slots;
 use edit_codec::{State, decode_edit, decode_head};
@@ -35,14 +35,14 @@ fn edited(alloc: Global, state: &State, body: &[u8]) -> Result<Option<State>, No
 }
 
 /// What a record says behind the last state; `None` exactly where it is damage.
-#[tactic(auto, unfolding(crate::specs::Slots::said))]
+#[tactic(auto, unfolding(crate::specs::Slots::said_behind))]
 fn read_next(
     alloc: Global,
     taken: u64,
     last: Option<&State>,
     body: &[u8],
 ) -> Result<Option<State>, NoMem>
-    ensures { IfOk result (λ now. now ≡ said taken (option_copied last.entry) body.now) }
+    ensures { IfOk result (λ now. now ≡ said_behind taken (option_copied last.entry) body.now) }
 {
     match last {
         Some(state) => edited(alloc, state, body),

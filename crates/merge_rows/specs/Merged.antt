@@ -23,9 +23,9 @@ is_untold None = true
 is_untold (Some rows) = false
 
 -- all rows of the lists that tell them, one list behind the other
-abbrev pub all_rows : List (Option (List Row)) → List Row
-all_rows = flat_map told_rows
+abbrev pub all_told_rows : List (Option (List Row)) → List Row
+all_told_rows = flat_map told_rows
 
 -- all rows in order, where each list tells its rows
 abbrev pub merged_rows : List (Option (List Row)) → Option (List Row)
-merged_rows lists = if list_any is_untold lists then None else Some (rows_in_order (all_rows lists))
+merged_rows lists = if list_any is_untold lists then None else Some (rows_in_order (all_told_rows lists))

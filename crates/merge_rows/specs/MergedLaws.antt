@@ -19,7 +19,7 @@ use Rattle.row_model.specs.RowOrder.{row_cmp, leads, is_ordered, placed, merged}
 use Rattle.row_model.specs.RowOrderLaws.{row_total, all_more, all_merged, is_untied, ordered_placed, same_merged}
 use Rattle.row_model.specs.ReplayLaws.{one_order}
 use Rattle.merge_rows.specs.Cursors.{Takes, with_held}
-use Rattle.merge_rows.specs.Merged.{AreDistinct, rows_in_order, told_rows, is_untold, all_rows, merged_rows}
+use Rattle.merge_rows.specs.Merged.{AreDistinct, rows_in_order, told_rows, is_untold, all_told_rows, merged_rows}
 use Rattle.merge_rows.specs.Heads.{head_cmp, IsHead}
 
 pub AreDistinct-prop : (rows : List Row) → IsProp (AreDistinct rows)
@@ -79,11 +79,11 @@ ordered_stay rows h order = let here = same_in_order rows in one_order (rows_in_
 
 -- ---- rows of several lists
 
-count-all : (p : Row → Bool) (lists : List (Option (List Row))) → count_by p (all_rows lists) ≡ sum_by (λ l. count_by p (told_rows l)) lists
+count-all : (p : Row → Bool) (lists : List (Option (List Row))) → count_by p (all_told_rows lists) ≡ sum_by (λ l. count_by p (told_rows l)) lists
 count-all p [] = refl
-count-all p (l ∷ lists) = sum_by-append (λ x. cond (p x) 1 0) (told_rows l) (all_rows lists) ∙ ap (λ (n : ℕ). count_by p (told_rows l) + n) (count-all p lists) ∙ sym (sum_by-cons (λ m. count_by p (told_rows m)) l lists)
+count-all p (l ∷ lists) = sum_by-append (λ x. cond (p x) 1 0) (told_rows l) (all_told_rows lists) ∙ ap (λ (n : ℕ). count_by p (told_rows l) + n) (count-all p lists) ∙ sym (sum_by-cons (λ m. count_by p (told_rows m)) l lists)
 
-pub distinct_permuted : (lists others : List (Option (List Row))) → IsPermutation lists others → AreDistinct (all_rows lists) → AreDistinct (all_rows others)
+pub distinct_permuted : (lists others : List (Option (List Row))) → IsPermutation lists others → AreDistinct (all_told_rows lists) → AreDistinct (all_told_rows others)
 distinct_permuted lists others moved h = λ row.
     let old = count-all (ties row) lists in
     let new = count-all (ties row) others in
@@ -92,29 +92,29 @@ distinct_permuted lists others moved h = λ row.
     omega (arith, old, new, same, few)
 
 -- a row of them all is one of one of them
-in_one : (lists : List (Option (List Row))) (row : Row) → Contains (all_rows lists) row → (l : Option (List Row)) × Contains lists l × Contains (told_rows l) row
+in_one : (lists : List (Option (List Row))) (row : Row) → Contains (all_told_rows lists) row → (l : Option (List Row)) × Contains lists l × Contains (told_rows l) row
 in_one [] row (k, low, is) = absurd (omega (arith, low))
 in_one (l ∷ lists) row there =
-    elim (Contains-append_cases (told_rows l) (all_rows lists) row there) [
+    elim (Contains-append_cases (told_rows l) (all_told_rows lists) row there) [
       | inl here ↦ (l, (0, omega arith, refl), here)
       | inr more ↦ let one = in_one lists row more in (one.0, (suc one.1.0, omega (arith, one.1.1), one.1.2), one.2)
     ]
 
-in_all : (lists : List (Option (List Row))) (l : Option (List Row)) (row : Row) → Contains lists l → Contains (told_rows l) row → Contains (all_rows lists) row
+in_all : (lists : List (Option (List Row))) (l : Option (List Row)) (row : Row) → Contains lists l → Contains (told_rows l) row → Contains (all_told_rows lists) row
 in_all [] l row (k, low, is) there = absurd (omega (arith, low))
-in_all (m ∷ lists) l row (zero, low, is) there = Contains-append_left (told_rows m) (all_rows lists) row (subst (λ (o : Option (List Row)). Contains (told_rows o) row) (sym is) there)
-in_all (m ∷ lists) l row (suc k, low, is) there = Contains-append_right (told_rows m) (all_rows lists) row (in_all lists l row (k, omega (arith, low), is) there)
+in_all (m ∷ lists) l row (zero, low, is) there = Contains-append_left (told_rows m) (all_told_rows lists) row (subst (λ (o : Option (List Row)). Contains (told_rows o) row) (sym is) there)
+in_all (m ∷ lists) l row (suc k, low, is) there = Contains-append_right (told_rows m) (all_told_rows lists) row (in_all lists l row (k, omega (arith, low), is) there)
 
-pub same_permuted : (lists others : List (Option (List Row))) → IsPermutation lists others → HaveSameRows (all_rows lists) (all_rows others)
+pub same_permuted : (lists others : List (Option (List Row))) → IsPermutation lists others → HaveSameRows (all_told_rows lists) (all_told_rows others)
 same_permuted lists others moved = (
   (λ row there. let one = in_one lists row there in in_all others one.0 row (Contains-permutation lists others one.0 moved one.1) one.2),
   (λ row there. let one = in_one others row there in in_all lists one.0 row (Contains-permutation others lists one.0 (IsPermutation-sym lists others moved) one.1) one.2),
 )
 
 -- their own order decides nothing
-pub merged_permuted : (lists others : List (Option (List Row))) → IsPermutation lists others → AreDistinct (all_rows lists) → merged_rows lists ≡ merged_rows others
+pub merged_permuted : (lists others : List (Option (List Row))) → IsPermutation lists others → AreDistinct (all_told_rows lists) → merged_rows lists ≡ merged_rows others
 merged_permuted lists others moved h =
-    (λ i. cond (list_any-IsPermutation is_untold lists others moved i) None (Some (one_in_order (all_rows lists) (all_rows others) h (distinct_permuted lists others moved h) (same_permuted lists others moved) i)))
+    (λ i. cond (list_any-IsPermutation is_untold lists others moved i) None (Some (one_in_order (all_told_rows lists) (all_told_rows others) h (distinct_permuted lists others moved h) (same_permuted lists others moved) i)))
 
 -- ---- the first row of all
 
@@ -161,18 +161,18 @@ module _ {X : Type 0} (row_of : X → Option Row) (rest_of : X → Option (List 
       by_order Equal e = let never : false ≡ true = sym (ap (λ o. not (is_eq o)) e) ∙ both_first (not (ties row y)) (is_untied row rest) apart in absurd (cc)
       by_order Greater e = let never : true ≡ false = sym (ap is_lt (row_total.antisymm y row ∙ ap ordering_reverse e)) ∙ top in absurd (cc)
 
-  pub all_led : (row : Row) (xs : List X) → AllByRecursion (λ x. is_lt (head_cmp (Some row) (row_of x)) ≡ false) xs → is_untied row (all_rows (lists_of xs)) ≡ true → leads row (all_rows (lists_of xs)) ≡ true
+  pub all_led : (row : Row) (xs : List X) → AllByRecursion (λ x. is_lt (head_cmp (Some row) (row_of x)) ≡ false) xs → is_untied row (all_told_rows (lists_of xs)) ≡ true → leads row (all_told_rows (lists_of xs)) ≡ true
   all_led row [] top apart = refl
   all_led row (x ∷ xs) top apart =
       let own = told_rows (with_held (row_of x) (rest_of x)) in
-      leads-append row own (all_rows (lists_of xs))
-      (one_led row (row_of x) (rest_of x) (good x) top.0 (untied_front row own (all_rows (lists_of xs)) apart))
-      (all_led row xs top.1 (untied_back row own (all_rows (lists_of xs)) apart))
+      leads-append row own (all_told_rows (lists_of xs))
+      (one_led row (row_of x) (rest_of x) (good x) top.0 (untied_front row own (all_told_rows (lists_of xs)) apart))
+      (all_led row xs top.1 (untied_back row own (all_told_rows (lists_of xs)) apart))
 
   -- where the greatest is at its end, no row is left
-  pub none_left : (xs : List X) → AllByRecursion (λ x. is_lt (head_cmp None (row_of x)) ≡ false) xs → all_rows (lists_of xs) ≡ []
+  pub none_left : (xs : List X) → AllByRecursion (λ x. is_lt (head_cmp None (row_of x)) ≡ false) xs → all_told_rows (lists_of xs) ≡ []
   none_left [] top = refl
-  none_left (x ∷ xs) top = ap (λ (rows : List Row). rows ++ all_rows (lists_of xs)) (one (row_of x) (rest_of x) (good x) top.0) ∙ none_left xs top.1
+  none_left (x ∷ xs) top = ap (λ (rows : List Row). rows ++ all_told_rows (lists_of xs)) (one (row_of x) (rest_of x) (good x) top.0) ∙ none_left xs top.1
     where
       one : (o : Option Row) (rows : Option (List Row)) → IsHead o rows → is_lt (head_cmp None o) ≡ false → told_rows (with_held o rows) ≡ []
       one None None head t = refl
@@ -181,22 +181,22 @@ module _ {X : Type 0} (row_of : X → Option Row) (rest_of : X → Option (List 
       one (Some y) rows head t = absurd (cc)
 
 -- a row that leads all others is taken first
-pub takes_first : (row : Row) (rest : Option (List Row)) (others : List (Option (List Row))) → leads row (told_rows rest ++ all_rows others) ≡ true
+pub takes_first : (row : Row) (rest : Option (List Row)) (others : List (Option (List Row))) → leads row (told_rows rest ++ all_told_rows others) ≡ true
     → Takes (merged_rows (with_held (Some row) rest ∷ others)) (Some row) (merged_rows (rest ∷ others))
 unfolding merged
 takes_first row None others lead = refl
 takes_first row (Some rest) others lead =
-    let front : placed row (merged [] (rest ++ all_rows others)) ≡ row ∷ merged [] (rest ++ all_rows others) =
-    front_placed row (merged [] (rest ++ all_rows others)) (all_merged (λ r. is_lt (row_cmp row r)) [] (rest ++ all_rows others) refl lead) in
-    elim (list_any is_untold others) as (λ b. Takes (cond b None (Some (placed row (merged [] (rest ++ all_rows others))))) (Some row) (cond b None (Some (merged [] (rest ++ all_rows others))))) [
+    let front : placed row (merged [] (rest ++ all_told_rows others)) ≡ row ∷ merged [] (rest ++ all_told_rows others) =
+    front_placed row (merged [] (rest ++ all_told_rows others)) (all_merged (λ r. is_lt (row_cmp row r)) [] (rest ++ all_told_rows others) refl lead) in
+    elim (list_any is_untold others) as (λ b. Takes (cond b None (Some (placed row (merged [] (rest ++ all_told_rows others))))) (Some row) (cond b None (Some (merged [] (rest ++ all_told_rows others))))) [
       | true ↦ refl
-      | false ↦ subst (λ (rows : List Row). Takes (Some rows) (Some row) (Some (merged [] (rest ++ all_rows others)))) (sym front) (refl, refl)
+      | false ↦ subst (λ (rows : List Row). Takes (Some rows) (Some row) (Some (merged [] (rest ++ all_told_rows others)))) (sym front) (refl, refl)
     ]
 
-pub merge_takes_none : (rest : Option (List Row)) (others : List (Option (List Row))) → all_rows (rest ∷ others) ≡ [] → Takes (merged_rows (rest ∷ others)) None (merged_rows (rest ∷ others))
+pub merge_takes_none : (rest : Option (List Row)) (others : List (Option (List Row))) → all_told_rows (rest ∷ others) ≡ [] → Takes (merged_rows (rest ∷ others)) None (merged_rows (rest ∷ others))
 unfolding merged
 merge_takes_none rest others none =
-    elim (list_any is_untold (rest ∷ others)) as (λ b. Takes (cond b None (Some (rows_in_order (all_rows (rest ∷ others))))) None (cond b None (Some (rows_in_order (all_rows (rest ∷ others)))))) [
+    elim (list_any is_untold (rest ∷ others)) as (λ b. Takes (cond b None (Some (rows_in_order (all_told_rows (rest ∷ others))))) None (cond b None (Some (rows_in_order (all_told_rows (rest ∷ others)))))) [
       | true ↦ refl
       | false ↦ subst (λ (rows : List Row). Takes (Some (rows_in_order rows)) None (Some (rows_in_order rows))) (sym none) (refl, refl)
     ]

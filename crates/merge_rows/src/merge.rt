@@ -7,7 +7,7 @@ ghost use Rattle.kv_outside.specs.Disk.{NothingNew};
 ghost use Rattle.kv_outside.specs.Causes.{IsCause};
 ghost use Rattle.merge_rows.specs.Cursors.{with_held};
 ghost use Rattle.merge_rows.specs.Heads.{head_cmp};
-ghost use Rattle.merge_rows.specs.Merged.{AreDistinct, all_rows, merged_rows};
+ghost use Rattle.merge_rows.specs.Merged.{AreDistinct, all_told_rows, merged_rows};
 ghost use Rattle.merge_rows.specs.MergedLaws.{AreDistinct-prop};
 ghost use Rattle.merge_rows.specs.Parts.{is_off, part_lists, cursor_parts, count_left};
 
@@ -27,7 +27,7 @@ pub struct Merge<C: Upcoming> {
     waiting: Vec<C>,
     /// Those whose next row is read, the least one on top.
     ready: BinaryHeap<Head<C>>,
-    ghost distinct: { AreDistinct (all_rows (part_lists (cursor_parts C.rows C.off waiting.items (heap_items ready) (λ h. h.row) (λ h. h.cursor)))) } by { AreDistinct-prop (all_rows (part_lists (cursor_parts C.rows C.off waiting.items (heap_items ready) (λ h. h.row) (λ h. h.cursor)))) },
+    ghost distinct: { AreDistinct (all_told_rows (part_lists (cursor_parts C.rows C.off waiting.items (heap_items ready) (λ h. h.row) (λ h. h.cursor)))) } by { AreDistinct-prop (all_told_rows (part_lists (cursor_parts C.rows C.off waiting.items (heap_items ready) (λ h. h.row) (λ h. h.cursor)))) },
     ghost heap: { IsHeap (λ x y. head_cmp x.row y.row) (heap_items ready) } by { IsHeap-prop (λ x y. head_cmp x.row y.row) (heap_items ready) },
     ghost room: { (vec_len waiting + heap_len ready ≤ vec_capacity waiting) × (vec_len waiting + heap_len ready ≤ heap_capacity ready) },
 }
@@ -44,7 +44,7 @@ impl<C: Upcoming + Drop> Merge<C> {
     /// The rows of these cursors. No two rows of them have both raw key and sequence equal. Where there is no memory
     /// the cursors are dropped.
     pub fn new(alloc: Global, cursors: Vec<C>) -> Result<Merge<C>, NoMem>
-        requires distinct { AreDistinct (all_rows (map C.rows cursors.items)) }
+        requires distinct { AreDistinct (all_told_rows (map C.rows cursors.items)) }
         ensures rows { IfOk result (λ m. ⟦<Merge<C> as Upcoming>⟧.rows m ≡ merged_rows (map C.rows cursors.items)) }
         ensures off { IfOk result (λ m. ⟦<Merge<C> as Upcoming>⟧.off m ≡ (λ file place. list_any (λ c. C.off c file place) cursors.items)) }
     {

@@ -2,18 +2,6 @@
 use Rattle.std.specs.Prelude.{ℕ, ◌-◌, nat_lt, nat_le, Bool, ◌&&◌, Option, Some, None}
 use Rattle.kv_base.specs.MetaValues.{MetaValue, StringValue, LifeValue, ListValue}
 
--- the deadline, or 0 for none
-abbrev pub expire_of : MetaValue → ℕ
-expire_of (StringValue expire payload) = expire
-expire_of (LifeValue kind expire version size) = expire
-expire_of (ListValue expire version head tail) = expire
-
--- the version of a collection's life
-abbrev pub version_of : MetaValue → Option ℕ
-version_of (StringValue expire payload) = None
-version_of (LifeValue kind expire version size) = Some version
-version_of (ListValue expire version head tail) = Some version
-
 -- the number of a collection's elements
 abbrev pub size_of : MetaValue → Option ℕ
 size_of (StringValue expire payload) = None

@@ -2,7 +2,8 @@
 
 ghost use Rattle.std.specs.Prelude.{◌≡◌};
 ghost use Rattle.kv_base.specs.RowRefs.{meta_seen};
-ghost use Rattle.meta_codec.specs.Metas.{expire_of, is_expired, size_of, version_of, with_expire};
+ghost use Rattle.kv_base.specs.MetaValues.{expire_of, version_of};
+ghost use Rattle.meta_codec.specs.Metas.{is_expired, size_of, with_expire};
 
 use kv_base::MetaRef;
 

@@ -4,7 +4,7 @@ use Rattle.std.specs.Prelude.{◌==◌, Option, Some, None, IsTrue, option_and_t
 use Rattle.kv_base.specs.Map.{Bytes, kept, get}
 use Rattle.kv_base.specs.InversionLaws.{same_some, and_then_is, kept_is, both_second, number_is}
 use Rattle.kv_base.specs.RawKeys.{is_key}
-use Rattle.kv_base.specs.MetaValues.{MetaValue, meta_text, read_meta}
+use Rattle.kv_base.specs.MetaValues.{MetaValue, meta_text, read_meta, version_of}
 use Rattle.kv_base.specs.MetaValueLaws.{meta_is_read}
 use Rattle.batch_codec.specs.Batches.{Batch, after, over}
 use Rattle.batch_codec.specs.BatchLaws.{get-after}
@@ -15,10 +15,10 @@ use Rattle.redis_model.specs.About.{keys_of}
 use Rattle.redis_model.specs.TouchedLaws.{touched_is_named}
 use Rattle.redis_model.specs.Machine.{apply_alive}
 use Rattle.lives_model.specs.Rows.{Rows, meta_key, row_key}
-use Rattle.lives_model.specs.Clean.{is_live, live_at, version_of}
+use Rattle.lives_model.specs.Clean.{is_live, live_at}
 use Rattle.lives_model.specs.Means.{MeansAt, LifeAt, meta_for, has_life}
 use Rattle.lives_model.specs.Plans.{is_store, holds_type, new_life, life_in, life_after, HasNoRows, Deletes, WritesEntry, LeavesEntry, KeyPlan, IsFresh}
-use Rattle.lives_model.specs.StepLaws.{version_fits, still, placed, live_still, live_gone}
+use Rattle.lives_model.specs.StepLaws.{version_fits, still, get-placed, live_still, live_gone}
 use Rattle.plan_laws.specs.AlikeRows.{life_of, RowsAlike, LivesAlike}
 use Rattle.plan_laws.specs.StillPlan.{collection, version_in, Meets, life_rows}
 use Rattle.plan_laws.specs.SomeRow.{life_is_older}
@@ -51,7 +51,7 @@ module _ (c d : Rows) (b : Batch) (k : Bytes) where
 -- a key that is written
 live_written : (c : Rows) (b : Batch) (u : ℕ) (k : Bytes) (text : Bytes) → get b (meta_key k) ≡ Some (Some text) → live_at (after c b) u k ≡ kept (is_live u) (read_meta text)
 unfolding live_at
-live_written c b u k text is = ap (λ o. kept (is_live u) (option_and_then read_meta o)) (placed c b (meta_key k) (Some text) is)
+live_written c b u k text is = ap (λ o. kept (is_live u) (option_and_then read_meta o)) (get-placed c b (meta_key k) (Some text) is)
 
 -- the version in the metadata of a value is that of its life
 version_back : (v : Value) (life : LifeAt) (x version : ℕ) → version_of (meta_for v life x) ≡ Some version → (has_life v ≡ true) × (life.version ≡ version)

@@ -4,10 +4,10 @@ use Rattle.std.specs.Prelude.{nat_lt, Option, Some, None, IsTrue, option_and_the
 use Rattle.kv_base.specs.Map.{Bytes, get}
 use Rattle.kv_base.specs.InversionLaws.{same_some, kept_is, both_first, both_second}
 use Rattle.kv_base.specs.RawKeys.{is_key, is_version}
-use Rattle.kv_base.specs.MetaValues.{MetaValue, StringValue, LifeValue, ListValue, is_deadline, is_size, is_life, is_meta_within}
+use Rattle.kv_base.specs.MetaValues.{MetaValue, StringValue, LifeValue, ListValue, is_deadline, is_size, is_life, is_meta_within, version_of}
 use Rattle.redis_model.specs.Value.{Entry}
 use Rattle.lives_model.specs.Rows.{Rows, IsOnGrammar, Side, row_key}
-use Rattle.lives_model.specs.Clean.{is_live, live_at, version_of}
+use Rattle.lives_model.specs.Clean.{is_live, live_at}
 use Rattle.lives_model.specs.Means.{MeansAt, meta_for}
 use Rattle.lives_model.specs.Lapses.{CountsAlike}
 use Rattle.lives_model.specs.StepLaws.{live_fits, version_for}

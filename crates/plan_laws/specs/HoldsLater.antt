@@ -23,7 +23,7 @@ use Rattle.lives_model.specs.Lapses.{reads_clock, is_past, lapses, IsStillReady,
 use Rattle.lives_model.specs.StepLaws.{step_means}
 use Rattle.lives_model.specs.JoinedBatchLaws.{plan_means}
 use Rattle.lives_model.specs.WrittenKeys.{touched_each, touched_in}
-use Rattle.lives_model.specs.WrittenKeyLaws.{in_front, behind}
+use Rattle.lives_model.specs.WrittenKeyLaws.{in_front, among_second}
 use Rattle.plan_laws.specs.Ahead.{HoldsUntil, not_lapsed, holds_ahead, holds_clock}
 use Rattle.plan_laws.specs.AlikeRows.{LivesAlike, counts_lives}
 use Rattle.plan_laws.specs.StillPlan.{Meets, touched_same, step_too, plan_too}
@@ -101,7 +101,7 @@ module _ (c d : Rows) (t later base i : ℕ) (m n : RedisMap) (a : Command) (ds 
       there = step_too c d t later (version base i) m n a p.batch first_meets p.reply plan.step
 
       later_named : (k : Bytes) → among (keys_of_each ds) k ≡ true → among (keys_of a ++ keys_of_each ds) k ≡ true
-      later_named k named = behind (keys_of a) (keys_of_each ds) k named
+      later_named k named = among_second (keys_of a) (keys_of_each ds) k named
 
 -- the parts are parts on the other rows
 parts_too : (c d : Rows) (t later base i : ℕ) (m n : RedisMap) (ds : List Command) (ps : List PlannedPart) → Ahead c d t later base i m n ds ps → AreParts c t base i m ds ps → AreParts d later base i n ds ps

@@ -24,7 +24,7 @@ use Rattle.lives_model.specs.Means.{Means}
 use Rattle.lives_model.specs.Plans.{IsPlan, IsPlanned, HasRoom, IsReady, IsAsked, AreAsked, PlannedPart, AreParts, join_parts, least, least_until, version, words, keys_of_each}
 use Rattle.lives_model.specs.StepLaws.{step_means}
 use Rattle.lives_model.specs.JoinedBatchLaws.{after-empty, after-joined}
-use Rattle.lives_model.specs.WrittenKeyLaws.{in_front, behind}
+use Rattle.lives_model.specs.WrittenKeyLaws.{in_front, among_second}
 use Rattle.lives_model.specs.AskedKeyLaws.{asked_keys}
 use Rattle.lives_model.specs.ListRoomLaws.{less_room, step_room}
 use Rattle.plan_laws.specs.AfterSteps.{step_fresh}
@@ -62,7 +62,7 @@ rest_ready c t fresh m d ds b answer first =
     }
   where
     later : (k : Bytes) → IsTrue (among (keys_of_each ds) k) → IsTrue (among (keys_of_each (d ∷ ds)) k)
-    later k named = behind (keys_of d) (keys_of_each ds) k named
+    later k named = among_second (keys_of d) (keys_of_each ds) k named
 
 -- ---- plans one after the other are parts
 

@@ -4,19 +4,19 @@ use Rattle.std.specs.Int.{w32, from_be_bytes}
 use Rattle.kv_base.specs.Fields.{text}
 
 -- the number that four bytes spell
-unfoldable pub number_of : List ℕ → ℕ
-number_of bytes = from_be_bytes w32 bytes
+unfoldable pub framed_number : List ℕ → ℕ
+framed_number bytes = from_be_bytes w32 bytes
 
 -- a body's length, the body, and the next gate, closed
 unfoldable pub framed : List ℕ → List ℕ
 framed body = text body ++ 0 ∷ []
 
 -- what stands between a length and a gate
-unfoldable pub body_of : List ℕ → List ℕ
-body_of bytes = take (length bytes - 5) (drop 4 bytes)
+unfoldable pub framed_body : List ℕ → List ℕ
+framed_body bytes = take (length bytes - 5) (drop 4 bytes)
 
 -- these bytes are a body between its length and a closed gate
 pub record IsFramed (bytes : List ℕ) : Type 0 where
-  pub is : bytes ≡ framed (body_of bytes)
-  pub long : length bytes ≡ length (body_of bytes) + 5
-  pub limit : length (body_of bytes) < 2 ^ 32
+  pub is : bytes ≡ framed (framed_body bytes)
+  pub long : length bytes ≡ length (framed_body bytes) + 5
+  pub limit : length (framed_body bytes) < 2 ^ 32

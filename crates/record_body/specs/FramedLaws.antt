@@ -5,20 +5,20 @@ use Rattle.std.proofs.lemmas.List.{take_at, drop_at, drop-append-le}
 use Rattle.std.proofs.lemmas.Nat.{from_be_bytes-to_be_bytes_4}
 use Rattle.kv_base.specs.Fields.{u32, text}
 use Rattle.kv_base.specs.FieldLaws.{length-u32, length-text}
-use Rattle.record_body.specs.Framed.{number_of, framed, body_of, IsFramed}
+use Rattle.record_body.specs.Framed.{framed_number, framed, framed_body, IsFramed}
 
 -- ---- laws
 
-pub number_of-u32 : (n : ℕ) → n < 2 ^ 32 → number_of (u32 n) ≡ n
-unfolding u32 number_of
+pub number_of-u32 : (n : ℕ) → n < 2 ^ 32 → framed_number (u32 n) ≡ n
+unfolding u32 framed_number
 number_of-u32 n lt = from_be_bytes-to_be_bytes_4 n lt
 
 pub length-framed : (body : List ℕ) → length (framed body) ≡ length body + 5
 unfolding framed
 length-framed body = omega (arith, length-append (text body) (0 ∷ []), length-text body)
 
-pub body_of-framed : (body : List ℕ) → body_of (framed body) ≡ body
-unfolding body_of framed text
+pub body_of-framed : (body : List ℕ) → framed_body (framed body) ≡ body
+unfolding framed_body framed text
 body_of-framed body =
     let behind : drop 4 (framed body) ≡ body ++ 0 ∷ [] =
     ap (λ (l : List ℕ). drop 4 l) (append_assoc (u32 (length body)) body (0 ∷ [])) ∙ drop_at (u32 (length body)) (body ++ 0 ∷ []) 4 (length-u32 (length body)) in
@@ -26,7 +26,7 @@ body_of-framed body =
 
 pub is_framed : (bytes body : List ℕ) → bytes ≡ framed body → length body < 2 ^ 32 → IsFramed bytes
 is_framed bytes body is limit =
-    let same : body_of bytes ≡ body = ap body_of is ∙ body_of-framed body in
+    let same : framed_body bytes ≡ body = ap framed_body is ∙ body_of-framed body in
     record {
       is = is ∙ ap framed (sym same);
       long = omega (arith, ap length is, length-framed body, ap length same);
@@ -42,10 +42,10 @@ framed_of buffer n is room =
     ∙ ap (λ (k : ℕ). (u32 k ++ drop 4 buffer) ++ 0 ∷ []) is
 
 -- what stands between the length and the gate, as it is read
-pub read_body : (bytes : List ℕ) (n : ℕ) → IsFramed bytes → n ≡ length bytes → drop 4 (take (n - 1) bytes) ≡ body_of bytes
+pub framed_body_is_read : (bytes : List ℕ) (n : ℕ) → IsFramed bytes → n ≡ length bytes → drop 4 (take (n - 1) bytes) ≡ framed_body bytes
 unfolding framed text
-read_body bytes n frame is =
-    let body = body_of bytes in
+framed_body_is_read bytes n frame is =
+    let body = framed_body bytes in
     let before = u32 (length body) in
     let front : take (n - 1) bytes ≡ text body =
     ap (λ (l : List ℕ). take (n - 1) l) frame.is ∙ take_at (text body) (0 ∷ []) (n - 1) (omega (arith, frame.long, length-text body)) in

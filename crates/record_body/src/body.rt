@@ -21,13 +21,13 @@ pub struct RecordBody {
 impl Model for RecordBody {
     ghost use Rattle.std.specs.Prelude.{List, ℕ};
     ghost use Rattle.std.specs.Coded.{coded_list, coded_ℕ};
-    ghost use Rattle.record_body.specs.Framed.{body_of, IsFramed};
+    ghost use Rattle.record_body.specs.Framed.{framed_body, IsFramed};
 
     ghost Value = { List ℕ };
 
     ghost coded = { coded_list coded_ℕ };
 
-    ghost view = { λ r. body_of r.buffer.items };
+    ghost view = { λ r. framed_body r.buffer.items };
 
     ghost invariant = { λ r. IsFramed r.buffer.items };
 }

@@ -5,7 +5,7 @@ use Rattle.std.proofs.lemmas.List.{get_or_append_left, append-nil, drop-drop, le
 use Rattle.resp_wire.specs.declared.stop.Stop.{Stop}
 use Rattle.resp_wire.specs.declared.stop.Stop.TheVariants.{More, Bad}
 use Rattle.resp_wire.specs.declared.pending.Pending.{Pending}
-use Rattle.resp_wire.specs.Grammar.{Part, ◌>>=◌, bulk, bulks, count, array, line, line_words, header, request}
+use Rattle.resp_wire.specs.Grammar.{Part, ◌>>=◌, bulk, bulk_words, count, array, line, line_words, header, request}
 use Rattle.resp_wire.specs.Lines.{BeginsLine, IsSearched}
 use Rattle.resp_wire.specs.LineLaws.{line_open, line_request, line_header, inline_read, inline_fails}
 use Rattle.resp_wire.specs.Reading.{ReadsRequest, IsEnd, IsUnfinished, IsHeaded, Refused}
@@ -15,7 +15,7 @@ use Rattle.resp_wire.specs.BehindLaws.{bulk_leaves, header_shortens, request_sho
 use Rattle.resp_wire.specs.Longer.{Stays, part_on}
 use Rattle.resp_wire.specs.LongerLaws.{bulk_stays, count_stays, header_stays, request_stays}
 use Rattle.resp_wire.specs.RequestLaws.{reads_request, is_faulty, is_unfinished}
-use Rattle.resp_wire.specs.HoldingLaws.{reads_then}
+use Rattle.resp_wire.specs.HoldingLaws.{reads_both_requests}
 
 abbrev Words : Type 0
 Words = List (List ℕ)
@@ -47,8 +47,8 @@ with_nothing : (read : Part Words) → with_front [] read ≡ read
 with_nothing (Ok x) = refl
 with_nothing (Err e) = refl
 
-all_words : (words : Words) (room : ℕ) (bytes : List ℕ) → with_front words (bulks 0 room bytes) ≡ Ok (words, bytes)
-unfolding bulks
+all_words : (words : Words) (room : ℕ) (bytes : List ℕ) → with_front words (bulk_words 0 room bytes) ≡ Ok (words, bytes)
+unfolding bulk_words
 all_words words room bytes = ap (λ (all : Words). Ok (all, bytes)) (append-nil words)
 
 -- ---- arrays
@@ -64,12 +64,12 @@ array_header behind = refl
 count_on : (bytes : List ℕ) (n : ℕ) (rest more : List ℕ) → count bytes ≡ Ok (n, rest) → count (bytes ++ more) ≡ Ok (n, rest ++ more)
 count_on bytes n rest more e = subst (λ (r : Part ℕ). Stays part_on r (count (bytes ++ more)) more) e (count_stays bytes more)
 
-array_on : (bytes : List ℕ) (n : ℕ) (rest more : List ℕ) → count bytes ≡ Ok (n, rest) → array (bytes ++ more) ≡ bulks n 16777216 (rest ++ more)
+array_on : (bytes : List ℕ) (n : ℕ) (rest more : List ℕ) → count bytes ≡ Ok (n, rest) → array (bytes ++ more) ≡ bulk_words n 16777216 (rest ++ more)
 unfolding array
 array_on bytes n rest more e = rw (count_on bytes n rest more e) refl
 
 no_bulks : (bytes : List ℕ) (n : ℕ) (rest : List ℕ) → count bytes ≡ Ok (n, rest) → n ≤ 0 → array bytes ≡ Ok ([], rest)
-unfolding array bulks
+unfolding array bulk_words
 no_bulks bytes zero rest e none = rw e refl
 no_bulks bytes (suc n) rest e none = absurd (omega arith)
 
@@ -92,8 +92,8 @@ module _ (bytes : List ℕ) (at : ℕ) (behind : List ℕ) (inside : at ≤ leng
     pub array_within : length rest + at < length bytes
     array_within = omega (arith, leaves.1, length-drop at bytes)
 
-    on_from : (more : List ℕ) → request (drop at bytes ++ more) ≡ with_front [] (bulks n 16777216 (rest ++ more))
-    on_from more = ap (λ (text : List ℕ). request (text ++ more)) here ∙ array_request (behind ++ more) ∙ array_on behind n rest more read ∙ sym (with_nothing (bulks n 16777216 (rest ++ more)))
+    on_from : (more : List ℕ) → request (drop at bytes ++ more) ≡ with_front [] (bulk_words n 16777216 (rest ++ more))
+    on_from more = ap (λ (text : List ℕ). request (text ++ more)) here ∙ array_request (behind ++ more) ∙ array_on behind n rest more read ∙ sym (with_nothing (bulk_words n 16777216 (rest ++ more)))
 
     pub array_begins : 0 < n → HasHeader bytes (record { start = at; next = length bytes - length rest; words = []; missing = n; room = 16777216 })
     array_begins some = record {
@@ -151,37 +151,37 @@ regroup front word (Err e) = refl
 bulk_on : (room : ℕ) (bytes word behind more : List ℕ) → bulk room bytes ≡ Ok (word, behind) → bulk room (bytes ++ more) ≡ Ok (word, behind ++ more)
 bulk_on room bytes word behind more e = subst (λ (r : Part (List ℕ)). Stays part_on r (bulk room (bytes ++ more)) more) e (bulk_stays room bytes more)
 
-one_word : (front : Words) (missing room : ℕ) (bytes word behind : List ℕ) → bulk room bytes ≡ Ok (word, behind) → with_front front (bulks (suc missing) room bytes) ≡ with_front (front ++ word ∷ []) (bulks missing (room - (length word + 16)) behind)
-unfolding bulks
-one_word front missing room bytes word behind e = rw e (regroup front word (bulks missing (room - (length word + 16)) behind))
+one_word : (front : Words) (missing room : ℕ) (bytes word behind : List ℕ) → bulk room bytes ≡ Ok (word, behind) → with_front front (bulk_words (suc missing) room bytes) ≡ with_front (front ++ word ∷ []) (bulk_words missing (room - (length word + 16)) behind)
+unfolding bulk_words
+one_word front missing room bytes word behind e = rw e (regroup front word (bulk_words missing (room - (length word + 16)) behind))
 
 word_read : (front : Words) (missing room : ℕ) (bytes word behind more : List ℕ) → 0 < missing → bulk room bytes ≡ Ok (word, behind)
-    → with_front front (bulks missing room (bytes ++ more)) ≡ with_front (front ++ word ∷ []) (bulks (missing - 1) (room - (length word + 16)) (behind ++ more))
+    → with_front front (bulk_words missing room (bytes ++ more)) ≡ with_front (front ++ word ∷ []) (bulk_words (missing - 1) (room - (length word + 16)) (behind ++ more))
 word_read front zero room bytes word behind more some e = absurd (omega arith)
 word_read front (suc missing) room bytes word behind more some e =
     let k : suc missing - 1 ≡ missing = omega arith in
     rw k (one_word front missing room (bytes ++ more) word (behind ++ more) (bulk_on room bytes word behind more e))
 
-word_stops : (front : Words) (missing room : ℕ) (bytes : List ℕ) (stop : Stop) → 0 < missing → bulk room bytes ≡ Err stop → with_front front (bulks missing room bytes) ≡ Err stop
-unfolding bulks
+word_stops : (front : Words) (missing room : ℕ) (bytes : List ℕ) (stop : Stop) → 0 < missing → bulk room bytes ≡ Err stop → with_front front (bulk_words missing room bytes) ≡ Err stop
+unfolding bulk_words
 word_stops front zero room bytes stop some e = absurd (omega arith)
 word_stops front (suc missing) room bytes stop some e = rw e refl
 
 -- all words were read
-no_word : (front : Words) (room : ℕ) (bytes : List ℕ) → with_front front (bulks 0 room bytes) ≡ Ok (front, bytes)
-unfolding bulks
+no_word : (front : Words) (room : ℕ) (bytes : List ℕ) → with_front front (bulk_words 0 room bytes) ≡ Ok (front, bytes)
+unfolding bulk_words
 no_word front room bytes = ap (λ (words : Words). Ok (words, bytes)) (append-nil front)
 
 -- a request that is begun
 module _ (bytes : List ℕ) (p : Pending) (begun : HasHeader bytes p) where
-  goes_on_here : request (drop p.start bytes) ≡ with_front p.words (bulks p.missing p.room (drop p.next bytes))
-  goes_on_here = ap request (sym (append-nil (drop p.start bytes))) ∙ begun.goes_on [] ∙ ap (λ (rest : List ℕ). with_front p.words (bulks p.missing p.room rest)) (append-nil (drop p.next bytes))
+  goes_on_here : request (drop p.start bytes) ≡ with_front p.words (bulk_words p.missing p.room (drop p.next bytes))
+  goes_on_here = ap request (sym (append-nil (drop p.start bytes))) ∙ begun.goes_on [] ∙ ap (λ (rest : List ℕ). with_front p.words (bulk_words p.missing p.room rest)) (append-nil (drop p.next bytes))
 
   pub request_stops : (stop : Stop) → 0 < p.missing → bulk p.room (drop p.next bytes) ≡ Err stop → request (drop p.start bytes) ≡ Err stop
   request_stops stop some e = goes_on_here ∙ word_stops p.words p.missing p.room (drop p.next bytes) stop some e
 
   pub request_is : p.missing ≡ 0 → request (drop p.start bytes) ≡ Ok (p.words, drop p.next bytes)
-  request_is none = goes_on_here ∙ ap (λ (n : ℕ). with_front p.words (bulks n p.room (drop p.next bytes))) none ∙ no_word p.words p.room (drop p.next bytes)
+  request_is none = goes_on_here ∙ ap (λ (n : ℕ). with_front p.words (bulk_words n p.room (drop p.next bytes))) none ∙ no_word p.words p.room (drop p.next bytes)
 
   module _ (word behind : List ℕ) (read : bulk p.room (drop p.next bytes) ≡ Ok (word, behind)) where
     behind_end : IsEnd (drop p.next bytes) behind
@@ -265,7 +265,7 @@ held_dropped bytes p held =
             inside = omega (arith, length-drop p.start bytes, held.inside);
             some = begun.some;
             headed = begun.headed;
-            goes_on = λ more. begun.goes_on more ∙ ap (λ (rest : List ℕ). with_front p.words (bulks p.missing p.room (rest ++ more))) (sym same);
+            goes_on = λ more. begun.goes_on more ∙ ap (λ (rest : List ℕ). with_front p.words (bulk_words p.missing p.room (rest ++ more))) (sym same);
           });
     }
 
@@ -294,7 +294,7 @@ held_fed bytes p piece held =
 pub handed_out : (bytes : List ℕ) (start : ℕ) (p : Pending) → start ≤ p.start → ReadsRequest (drop start bytes) [] (drop p.start bytes) → HasHeader bytes p → p.missing ≡ 0
     → ReadsRequest (drop start bytes) p.words (drop p.next bytes) × (length (drop p.next bytes) < length (drop start bytes)) × (0 < length p.words)
 handed_out bytes start p forward skipped begun none = (
-  reads_then (drop start bytes) (drop p.start bytes) p.words (drop p.next bytes) skipped (reads_request (drop p.start bytes) p.words (drop p.next bytes) (request_is bytes p begun none)),
+  reads_both_requests (drop start bytes) (drop p.start bytes) p.words (drop p.next bytes) skipped (reads_request (drop p.start bytes) p.words (drop p.next bytes) (request_is bytes p begun none)),
   omega (arith, length-drop p.next bytes, length-drop start bytes, begun.before, begun.inside),
   omega (arith, begun.some),
 )

@@ -8,8 +8,8 @@ use Rattle.std.proofs.lemmas.List.{drop-drop, length-drop}
 use Rattle.resp_wire.specs.declared.parts.LengthLimit.{LengthLimit}
 use Rattle.resp_wire.specs.declared.parts.LengthLimit.TheVariants.{Words, Bytes}
 use Rattle.resp_wire.specs.declared.stop.Stop.{Stop}
-use Rattle.resp_wire.specs.Grammar.{Part, ◌>>=◌, mark, line_end, exceeds, with_digit, is_lone_zero, text_end, length_from, length_text, body, bulk, bulks, minus_one, count, array, is_quote, line, line_words, inline, header, request}
-use Rattle.resp_wire.specs.Lines.{onto, walk}
+use Rattle.resp_wire.specs.Grammar.{Part, ◌>>=◌, behind_byte, behind_line_end, exceeds, with_digit, is_lone_zero, text_end, length_from, length_text, body, bulk, bulk_words, minus_one, count, array, is_quote, line, line_words, inline, header, request}
+use Rattle.resp_wire.specs.Lines.{with_byte, walk}
 use Rattle.resp_wire.specs.LineLaws.{line_walk}
 use Rattle.resp_wire.specs.Reading.{IsEnd}
 use Rattle.resp_wire.specs.Behind.{LeavesRest, all_of, behind_of, Shortens}
@@ -47,14 +47,14 @@ if_leaves : {X : Type 0} (rest : X → List ℕ) (bytes : List ℕ) (b : Bool) (
 if_leaves rest bytes true r s p q = p
 if_leaves rest bytes false r s p q = q
 
-mark_leaves : (byte : ℕ) (bytes : List ℕ) → LeavesRest all_of bytes (mark byte bytes)
-unfolding mark
+mark_leaves : (byte : ℕ) (bytes : List ℕ) → LeavesRest all_of bytes (behind_byte byte bytes)
+unfolding behind_byte
 mark_leaves byte [] = tt
 mark_leaves byte (c ∷ rest) = if_leaves all_of (c ∷ rest) (c == byte) (Ok rest) _ (end_cons c rest rest (end_here rest)) tt
 
-line_end_leaves : (bytes : List ℕ) → LeavesRest all_of bytes (line_end bytes)
-unfolding line_end
-line_end_leaves bytes = then_leaves all_of all_of bytes (mark 13 bytes) (mark 10) (mark_leaves 13 bytes) (mark_leaves 10)
+line_end_leaves : (bytes : List ℕ) → LeavesRest all_of bytes (behind_line_end bytes)
+unfolding behind_line_end
+line_end_leaves bytes = then_leaves all_of all_of bytes (behind_byte 13 bytes) (behind_byte 10) (mark_leaves 13 bytes) (mark_leaves 10)
 
 text_end_leaves : (left : ℕ) (so_far : Option ℕ) (bytes : List ℕ) → LeavesRest behind_of bytes (text_end left so_far bytes)
 unfolding text_end
@@ -62,7 +62,7 @@ text_end_leaves left None bytes = tt
 text_end_leaves left (Some n) [] = tt
 text_end_leaves left (Some n) (c ∷ rest) =
     let ended : List ℕ → Part ℕ = λ behind. Ok (n, behind) in
-    if_leaves behind_of (c ∷ rest) (c == 13) (mark 10 rest >>= ended) _ (cons_leaves behind_of c rest (mark 10 rest >>= ended) (then_leaves all_of behind_of rest (mark 10 rest) ended (mark_leaves 10 rest) end_here)) tt
+    if_leaves behind_of (c ∷ rest) (c == 13) (behind_byte 10 rest >>= ended) _ (cons_leaves behind_of c rest (behind_byte 10 rest >>= ended) (then_leaves all_of behind_of rest (behind_byte 10 rest) ended (mark_leaves 10 rest) end_here)) tt
 
 length_from_leaves : (limit : LengthLimit) (left : ℕ) (so_far : Option ℕ) (bytes : List ℕ) → LeavesRest behind_of bytes (length_from limit left so_far bytes)
 unfolding length_from
@@ -84,21 +84,21 @@ body_leaves n bytes = elim (cases_lt (length bytes) n) [
   | inr le ↦
       let t : nat_lt (length bytes) n ≡ false = grind (arith, common_steps) in
       let ended : List ℕ → Part (List ℕ) = λ behind. Ok (take n bytes, behind) in
-      rw t (end_leaves behind_of bytes (drop n bytes) (line_end (drop n bytes) >>= ended) (end_drop n bytes le) (then_leaves all_of behind_of (drop n bytes) (line_end (drop n bytes)) ended (line_end_leaves (drop n bytes)) end_here))
+      rw t (end_leaves behind_of bytes (drop n bytes) (behind_line_end (drop n bytes) >>= ended) (end_drop n bytes le) (then_leaves all_of behind_of (drop n bytes) (behind_line_end (drop n bytes)) ended (line_end_leaves (drop n bytes)) end_here))
 ]
 
 pub bulk_leaves : (room : ℕ) (bytes : List ℕ) → LeavesRest behind_of bytes (bulk room bytes)
 unfolding bulk
 bulk_leaves room bytes =
-    then_leaves all_of behind_of bytes (mark 36 bytes) (λ behind. length_text (Bytes room) behind >>= λ n. body n.0 n.1) (mark_leaves 36 bytes)
+    then_leaves all_of behind_of bytes (behind_byte 36 bytes) (λ behind. length_text (Bytes room) behind >>= λ n. body n.0 n.1) (mark_leaves 36 bytes)
     (λ behind. then_leaves behind_of behind_of behind (length_text (Bytes room) behind) (λ n. body n.0 n.1) (length_text_leaves (Bytes room) behind) (λ n. body_leaves n.0 n.1))
 
-pub bulks_leaves : (n room : ℕ) (bytes : List ℕ) → LeavesRest behind_of bytes (bulks n room bytes)
-unfolding bulks
+pub bulks_leaves : (n room : ℕ) (bytes : List ℕ) → LeavesRest behind_of bytes (bulk_words n room bytes)
+unfolding bulk_words
 bulks_leaves zero room bytes = end_here bytes
 bulks_leaves (suc n) room bytes =
-    then_leaves behind_of behind_of bytes (bulk room bytes) (λ first. bulks n (room - (length first.0 + 16)) first.1 >>= λ others. Ok (first.0 ∷ others.0, others.1)) (bulk_leaves room bytes)
-    (λ first. then_leaves behind_of behind_of first.1 (bulks n (room - (length first.0 + 16)) first.1) (λ others. Ok (first.0 ∷ others.0, others.1)) (bulks_leaves n (room - (length first.0 + 16)) first.1) (λ others. end_here others.1))
+    then_leaves behind_of behind_of bytes (bulk room bytes) (λ first. bulk_words n (room - (length first.0 + 16)) first.1 >>= λ others. Ok (first.0 ∷ others.0, others.1)) (bulk_leaves room bytes)
+    (λ first. then_leaves behind_of behind_of first.1 (bulk_words n (room - (length first.0 + 16)) first.1) (λ others. Ok (first.0 ∷ others.0, others.1)) (bulks_leaves n (room - (length first.0 + 16)) first.1) (λ others. end_here others.1))
 
 minus_one_leaves : (left : ℕ) (bytes : List ℕ) → LeavesRest behind_of bytes (minus_one left bytes)
 unfolding minus_one
@@ -112,7 +112,7 @@ count_leaves (c ∷ bytes) = if_leaves behind_of (c ∷ bytes) (c == 45) _ _ (co
 
 array_leaves : (bytes : List ℕ) → LeavesRest behind_of bytes (array bytes)
 unfolding array
-array_leaves bytes = then_leaves behind_of behind_of bytes (count bytes) (λ n. bulks n.0 16777216 n.1) (count_leaves bytes) (λ n. bulks_leaves n.0 16777216 n.1)
+array_leaves bytes = then_leaves behind_of behind_of bytes (count bytes) (λ n. bulk_words n.0 16777216 n.1) (count_leaves bytes) (λ n. bulks_leaves n.0 16777216 n.1)
 
 walk_leaves : (most left : ℕ) (bytes : List ℕ) → LeavesRest behind_of bytes (walk most left bytes)
 unfolding walk
@@ -121,8 +121,8 @@ walk_leaves (suc n) left [] = tt
 walk_leaves zero left (c ∷ rest) = if_leaves behind_of (c ∷ rest) (c == 10) (Ok ([], rest)) _ (end_cons c rest rest (end_here rest)) tt
 walk_leaves (suc n) left (c ∷ rest) =
     if_leaves behind_of (c ∷ rest) (c == 10) (Ok ([], rest)) _ (end_cons c rest rest (end_here rest))
-    (if_leaves behind_of (c ∷ rest) (is_quote c) _ (walk n left rest >>= onto c) tt
-    (cons_leaves behind_of c rest (walk n left rest >>= onto c) (then_leaves behind_of behind_of rest (walk n left rest) (onto c) (walk_leaves n left rest) (λ x. end_here x.1))))
+    (if_leaves behind_of (c ∷ rest) (is_quote c) _ (walk n left rest >>= with_byte c) tt
+    (cons_leaves behind_of c rest (walk n left rest >>= with_byte c) (then_leaves behind_of behind_of rest (walk n left rest) (with_byte c) (walk_leaves n left rest) (λ x. end_here x.1))))
 
 -- ---- a request takes at least a byte
 
@@ -149,8 +149,8 @@ walk_shortens (suc n) left [] = tt
 walk_shortens zero left (c ∷ rest) = if_shortens (c ∷ rest) (c == 10) (Ok ([], rest)) _ (taken {A = List ℕ} c rest (Ok ([], rest)) (end_here rest)) tt
 walk_shortens (suc n) left (c ∷ rest) =
     if_shortens (c ∷ rest) (c == 10) (Ok ([], rest)) _ (taken {A = List ℕ} c rest (Ok ([], rest)) (end_here rest))
-    (if_shortens (c ∷ rest) (is_quote c) _ (walk n left rest >>= onto c) tt
-    (taken c rest (walk n left rest >>= onto c) (then_leaves behind_of behind_of rest (walk n left rest) (onto c) (walk_leaves n left rest) (λ x. end_here x.1))))
+    (if_shortens (c ∷ rest) (is_quote c) _ (walk n left rest >>= with_byte c) tt
+    (taken c rest (walk n left rest >>= with_byte c) (then_leaves behind_of behind_of rest (walk n left rest) (with_byte c) (walk_leaves n left rest) (λ x. end_here x.1))))
 
 pub line_shortens : (bytes : List ℕ) → Shortens bytes (line bytes)
 line_shortens bytes = rw line_walk (walk_shortens 65536 (length bytes) bytes)

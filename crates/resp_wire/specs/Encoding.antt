@@ -1,18 +1,18 @@
 -- Requests as a client writes them.
 use Rattle.std.specs.Prelude.{◌≡◌, ℕ, ◌+◌, ◌-◌, ◌≤◌, false, ◌⊎◌, codes, All, slice_index, List, [], ◌∷◌, ◌++◌, length, sum_by, decimal, Ok}
 use Rattle.std.specs.List.{flat_map}
-use Rattle.resp_wire.specs.Grammar.{star, dollar, carriage_return, line_feed, mark, count, array, line_words, request, requests, with_request}
+use Rattle.resp_wire.specs.Grammar.{star, dollar, carriage_return, line_feed, behind_byte, count, array, line_words, request, requests, with_request}
 use Rattle.resp_wire.specs.Lines.{is_stop}
 
 -- a mark, a number and a line end
 abbrev pub length_line : ℕ → ℕ → List ℕ
 length_line byte n = byte ∷ (decimal n ++ carriage_return ∷ line_feed ∷ [])
 
-abbrev pub word_text : List ℕ → List ℕ
-word_text word = length_line dollar (length word) ++ word ++ carriage_return ∷ line_feed ∷ []
+abbrev pub bulk_text : List ℕ → List ℕ
+bulk_text word = length_line dollar (length word) ++ word ++ carriage_return ∷ line_feed ∷ []
 
 abbrev pub request_text : List (List ℕ) → List ℕ
-request_text words = length_line star (length words) ++ flat_map word_text words
+request_text words = length_line star (length words) ++ flat_map bulk_text words
 
 -- ---- words
 

@@ -11,11 +11,11 @@ use Rattle.std.proofs.lemmas.List.Sums.{sum_by-cons}
 use Rattle.std.proofs.Math.Seq.{take-append_seam, drop-append_seam}
 use Rattle.resp_wire.specs.declared.parts.LengthLimit.{LengthLimit}
 use Rattle.resp_wire.specs.declared.parts.LengthLimit.TheVariants.{Words, Bytes}
-use Rattle.resp_wire.specs.Grammar.{carriage_return, line_feed, mark, line_end, exceeds, with_digit, text_end, length_from, length_text, body, bulk, bulks, count, array, line_words, request, requests, after_request}
+use Rattle.resp_wire.specs.Grammar.{carriage_return, line_feed, behind_byte, behind_line_end, exceeds, with_digit, text_end, length_from, length_text, body, bulk, bulk_words, count, array, line_words, request, requests, after_request}
 use Rattle.resp_wire.specs.Lines.{BeginsLine}
 use Rattle.resp_wire.specs.LineLaws.{line_request, inline_read, line_read}
 use Rattle.resp_wire.specs.RequestLaws.{requests_is}
-use Rattle.resp_wire.specs.Encoding.{word_text, request_text, cost, IsWithinLimits, TextsAreRead, IsLine, LinesAreRead}
+use Rattle.resp_wire.specs.Encoding.{bulk_text, request_text, cost, IsWithinLimits, TextsAreRead, IsLine, LinesAreRead}
 
 -- ---- lengths
 
@@ -23,9 +23,9 @@ fewer : (limit : LengthLimit) (m n : ℕ) → m ≤ n → exceeds limit n ≡ fa
 fewer Words m n le h = grind (arith, common_steps)
 fewer (Bytes room) m n le h = grind (arith, common_steps)
 
-pub small : (limit : LengthLimit) (n : ℕ) → exceeds limit n ≡ false → n < 2 ^ 64
-small Words n h = let k : n ≤ 65536 = grind (arith, common_steps) in omega arith
-small (Bytes room) n h = let k : n ≤ 1048576 = grind (arith, common_steps) in omega arith
+pub limit_is_small : (limit : LengthLimit) (n : ℕ) → exceeds limit n ≡ false → n < 2 ^ 64
+limit_is_small Words n h = let k : n ≤ 65536 = grind (arith, common_steps) in omega arith
+limit_is_small (Bytes room) n h = let k : n ≤ 1048576 = grind (arith, common_steps) in omega arith
 
 abbrev DigitsRead : LengthLimit → ℕ → ℕ → List ℕ → Type 0
 DigitsRead limit left n digits = exceeds limit n ≡ false → (tail : List ℕ) → length_from limit left None (digits ++ tail) ≡ length_from limit left (Some n) tail
@@ -46,10 +46,10 @@ more_digits limit left n digits ge before h tail =
     rw append_assoc (before (fewer limit (n / 10) n (omega arith) h) ((48 + n % 10) ∷ tail) ∙ rw (d, z, e, h) refl)
 
 digits_read : (limit : LengthLimit) (left n : ℕ) → exceeds limit n ≡ false → (tail : List ℕ) → length_from limit left None (decimal n ++ tail) ≡ length_from limit left (Some n) tail
-digits_read limit left n h = decimal_by_steps (DigitsRead limit left) (one_digit limit left) (more_digits limit left) n (small limit n h) h
+digits_read limit left n h = decimal_by_steps (DigitsRead limit left) (one_digit limit left) (more_digits limit left) n (limit_is_small limit n h) h
 
 ended : (limit : LengthLimit) (left n : ℕ) (rest : List ℕ) → length_from limit left (Some n) (carriage_return ∷ line_feed ∷ rest) ≡ Ok (n, rest)
-unfolding length_from text_end mark
+unfolding length_from text_end behind_byte
 ended limit left n rest = refl
 
 number_read : (limit : LengthLimit) (n : ℕ) (rest : List ℕ) → exceeds limit n ≡ false → length_text limit (decimal n ++ carriage_return ∷ line_feed ∷ rest) ≡ Ok (n, rest)
@@ -67,12 +67,12 @@ more_counted : (n : ℕ) (digits : List ℕ) → 10 ≤ n → CountsAsLength (n 
 more_counted n digits ge before tail = rw append_assoc (before ((48 + n % 10) ∷ tail))
 
 count_read : (n : ℕ) (rest : List ℕ) → exceeds Words n ≡ false → count (decimal n ++ carriage_return ∷ line_feed ∷ rest) ≡ Ok (n, rest)
-count_read n rest h = decimal_by_steps CountsAsLength one_counted more_counted n (small Words n h) (carriage_return ∷ line_feed ∷ rest) ∙ number_read Words n rest h
+count_read n rest h = decimal_by_steps CountsAsLength one_counted more_counted n (limit_is_small Words n h) (carriage_return ∷ line_feed ∷ rest) ∙ number_read Words n rest h
 
 -- ---- words
 
-line_ended : (rest : List ℕ) → line_end (carriage_return ∷ line_feed ∷ rest) ≡ Ok rest
-unfolding line_end mark
+line_ended : (rest : List ℕ) → behind_line_end (carriage_return ∷ line_feed ∷ rest) ≡ Ok rest
+unfolding behind_line_end behind_byte
 line_ended rest = refl
 
 body_read : (word rest : List ℕ) → body (length word) (word ++ carriage_return ∷ line_feed ∷ rest) ≡ Ok (word, rest)
@@ -81,8 +81,8 @@ body_read word rest =
     let l : nat_lt (length (word ++ carriage_return ∷ line_feed ∷ rest)) (length word) ≡ false = grind (arith, common_steps, length-append word (carriage_return ∷ line_feed ∷ rest)) in
     rw (l, take-append_seam word (carriage_return ∷ line_feed ∷ rest), drop-append_seam word (carriage_return ∷ line_feed ∷ rest), line_ended rest) refl
 
-bulk_read : (room : ℕ) (word rest : List ℕ) → exceeds (Bytes room) (length word) ≡ false → bulk room (word_text word ++ rest) ≡ Ok (word, rest)
-unfolding bulk mark
+bulk_read : (room : ℕ) (word rest : List ℕ) → exceeds (Bytes room) (length word) ≡ false → bulk room (bulk_text word ++ rest) ≡ Ok (word, rest)
+unfolding bulk behind_byte
 bulk_read room word rest h =
     let e : decimal (length word) ++ carriage_return ∷ line_feed ∷ [] ++ word ++ carriage_return ∷ line_feed ∷ [] ++ rest ≡ decimal (length word) ++ carriage_return ∷ line_feed ∷ (word ++ carriage_return ∷ line_feed ∷ rest) = simp append_assoc in
     rw (e, number_read (Bytes room) (length word) (word ++ carriage_return ∷ line_feed ∷ rest) h) (body_read word rest)
@@ -90,13 +90,13 @@ bulk_read room word rest h =
 fits : (room : ℕ) (word : List ℕ) → length word ≤ 1048576 → cost word ≤ room → exceeds (Bytes room) (length word) ≡ false
 fits room word le room-le = grind (arith, common_steps)
 
-bulks_read : (words : List (List ℕ)) (room : ℕ) (rest : List ℕ) → All (λ word. length word ≤ 1048576) words → sum_by cost words ≤ room → bulks (length words) room (flat_map word_text words ++ rest) ≡ Ok (words, rest)
-unfolding bulks
+bulks_read : (words : List (List ℕ)) (room : ℕ) (rest : List ℕ) → All (λ word. length word ≤ 1048576) words → sum_by cost words ≤ room → bulk_words (length words) room (flat_map bulk_text words ++ rest) ≡ Ok (words, rest)
+unfolding bulk_words
 bulks_read [] room rest each all = refl
 bulks_read (word ∷ words) room rest each all =
     let total : cost word + sum_by cost words ≤ room = rw sum_by-cons at all in
-    let e : word_text word ++ flat_map word_text words ++ rest ≡ word_text word ++ (flat_map word_text words ++ rest) = append_assoc (word_text word) (flat_map word_text words) rest in
-    let first = bulk_read room word (flat_map word_text words ++ rest) (fits room word (All-head (λ (w : List ℕ). length w ≤ 1048576) word words each) (omega arith)) in
+    let e : bulk_text word ++ flat_map bulk_text words ++ rest ≡ bulk_text word ++ (flat_map bulk_text words ++ rest) = append_assoc (bulk_text word) (flat_map bulk_text words) rest in
+    let first = bulk_read room word (flat_map bulk_text words ++ rest) (fits room word (All-head (λ (w : List ℕ). length w ≤ 1048576) word words each) (omega arith)) in
     let others = bulks_read words (room - cost word) rest (All-tail (λ (w : List ℕ). length w ≤ 1048576) word words each) (omega arith) in
     rw (e, first, others) refl
 
@@ -105,9 +105,9 @@ bulks_read (word ∷ words) room rest each all =
 request_read : (words : List (List ℕ)) (rest : List ℕ) → IsWithinLimits words → request (request_text words ++ rest) ≡ Ok (words, rest)
 unfolding request array
 request_read words rest within =
-    let small : exceeds Words (length words) ≡ false = (let k = within.count in grind (arith, common_steps)) in
-    let e : decimal (length words) ++ carriage_return ∷ line_feed ∷ [] ++ flat_map word_text words ++ rest ≡ decimal (length words) ++ carriage_return ∷ line_feed ∷ (flat_map word_text words ++ rest) = simp append_assoc in
-    rw (e, count_read (length words) (flat_map word_text words ++ rest) small) (bulks_read words 16777216 rest within.each within.all)
+    let limit_is_small : exceeds Words (length words) ≡ false = (let k = within.count in grind (arith, common_steps)) in
+    let e : decimal (length words) ++ carriage_return ∷ line_feed ∷ [] ++ flat_map bulk_text words ++ rest ≡ decimal (length words) ++ carriage_return ∷ line_feed ∷ (flat_map bulk_text words ++ rest) = simp append_assoc in
+    rw (e, count_read (length words) (flat_map bulk_text words ++ rest) limit_is_small) (bulks_read words 16777216 rest within.each within.all)
 
 pub texts_are_read : TextsAreRead
 texts_are_read words rest within = requests_is (request_text words ++ rest) ∙ ap (after_request requests (request_text words ++ rest)) (request_read words rest within)

@@ -7,11 +7,11 @@ use Rattle.resp_wire.specs.declared.stop.ProtocolFault.{ProtocolFault}
 use Rattle.resp_wire.specs.declared.stop.ProtocolFault.TheVariants as kind
 
 -- a fault of a request as one of the wire
-abbrev pub fault_of : ProtocolFault → WireFault
-fault_of kind.BadMark = BadMark
-fault_of kind.BadLength = BadLength
-fault_of kind.TooLong = TooLong
-fault_of kind.Quote = Quote
+abbrev pub wire_fault : ProtocolFault → WireFault
+wire_fault kind.BadMark = BadMark
+wire_fault kind.BadLength = BadLength
+wire_fault kind.TooLong = TooLong
+wire_fault kind.Quote = Quote
 
 abbrev pub fault_text : WireFault → List ℕ
 fault_text BadMark = codes "bad mark"

@@ -39,13 +39,13 @@ abbrev pub line_feed : ℕ
 line_feed = 10
 
 -- the text behind this byte
-unfoldable pub mark : ℕ → List ℕ → Result (List ℕ) Stop
-mark byte [] = Err More
-mark byte (c ∷ rest) = if c == byte then Ok rest else Err (Bad BadMark (length rest + 1))
+unfoldable pub behind_byte : ℕ → List ℕ → Result (List ℕ) Stop
+behind_byte byte [] = Err More
+behind_byte byte (c ∷ rest) = if c == byte then Ok rest else Err (Bad BadMark (length rest + 1))
 
 -- the text behind a line end
-unfoldable pub line_end : List ℕ → Result (List ℕ) Stop
-line_end bytes = mark carriage_return bytes >>= mark line_feed
+unfoldable pub behind_line_end : List ℕ → Result (List ℕ) Stop
+behind_line_end bytes = behind_byte carriage_return bytes >>= behind_byte line_feed
 
 -- ---- lengths
 
@@ -67,7 +67,7 @@ is_lone_zero (Some n) = n == 0
 unfoldable pub text_end : ℕ → Option ℕ → List ℕ → Part ℕ
 text_end left None bytes = Err (Bad BadLength left)
 text_end left (Some n) [] = Err More
-text_end left (Some n) (c ∷ rest) = if c == carriage_return then (mark line_feed rest >>= λ behind. Ok (n, behind)) else Err (Bad BadLength left)
+text_end left (Some n) (c ∷ rest) = if c == carriage_return then (behind_byte line_feed rest >>= λ behind. Ok (n, behind)) else Err (Bad BadLength left)
 
 -- a length text behind its digits so far
 unfoldable pub length_from : LengthLimit → ℕ → Option ℕ → List ℕ → Part ℕ
@@ -86,20 +86,20 @@ length_text limit bytes = length_from limit (length bytes + 1) None bytes
 
 -- n bytes and a line end
 unfoldable pub body : ℕ → List ℕ → Part (List ℕ)
-body n bytes = if nat_lt (length bytes) n then Err More else (line_end (drop n bytes) >>= λ behind. Ok (take n bytes, behind))
+body n bytes = if nat_lt (length bytes) n then Err More else (behind_line_end (drop n bytes) >>= λ behind. Ok (take n bytes, behind))
 
 -- a bulk string, for which its request has this room
 unfoldable pub bulk : ℕ → List ℕ → Part (List ℕ)
 bulk room bytes = do
-  behind ← mark dollar bytes
+  behind ← behind_byte dollar bytes
   n ← length_text (Bytes room) behind
   body n.0 n.1
 
-unfoldable pub bulks : ℕ → ℕ → List ℕ → Part (List (List ℕ))
-bulks zero room bytes = Ok ([], bytes)
-bulks (suc n) room bytes = do
+unfoldable pub bulk_words : ℕ → ℕ → List ℕ → Part (List (List ℕ))
+bulk_words zero room bytes = Ok ([], bytes)
+bulk_words (suc n) room bytes = do
   first ← bulk room bytes
-  others ← bulks n (room - (length first.0 + 16)) first.1
+  others ← bulk_words n (room - (length first.0 + 16)) first.1
   Ok (first.0 ∷ others.0, others.1)
 
 -- `-1` in the place of an array's number, behind its `-`: no words
@@ -114,7 +114,7 @@ count (c ∷ bytes) = if c == minus then minus_one (length bytes + 2) bytes else
 
 -- an array behind its `*`, which may hold 16,777,216
 unfoldable pub array : List ℕ → Part (List (List ℕ))
-array bytes = count bytes >>= λ n. bulks n.0 16777216 n.1
+array bytes = count bytes >>= λ n. bulk_words n.0 16777216 n.1
 
 -- ---- inline lines
 

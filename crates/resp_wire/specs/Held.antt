@@ -7,7 +7,7 @@ use Rattle.resp_wire.specs.declared.stop.Stop.TheVariants.{More, Bad}
 use Rattle.resp_wire.specs.declared.pending.Opening.{Opening}
 use Rattle.resp_wire.specs.declared.pending.Opening.TheVariants.{Unfinished, Empty, Begun}
 use Rattle.resp_wire.specs.declared.pending.Pending.{Pending}
-use Rattle.resp_wire.specs.Grammar.{Part, ◌>>=◌, bulk, bulks, request}
+use Rattle.resp_wire.specs.Grammar.{Part, ◌>>=◌, bulk, bulk_words, request}
 use Rattle.resp_wire.specs.Lines.{IsSearched}
 use Rattle.resp_wire.specs.Reading.{AsksInside, IsHeaded, IsUnfinished, ReadsRequest, Refused}
 
@@ -22,7 +22,7 @@ pub record HasHeader (bytes : List ℕ) (p : Pending) : Type 0 where
   pub inside : p.next ≤ length bytes
   pub some : 0 < length p.words + p.missing
   pub headed : IsHeaded (drop p.start bytes)
-  pub goes_on : (more : List ℕ) → request (drop p.start bytes ++ more) ≡ with_front p.words (bulks p.missing p.room (drop p.next bytes ++ more))
+  pub goes_on : (more : List ℕ) → request (drop p.start bytes ++ more) ≡ with_front p.words (bulk_words p.missing p.room (drop p.next bytes ++ more))
 
 -- Where no request is begun, the bytes that were passed over are the front of a line.
 pub record IsHeld (bytes : List ℕ) (p : Pending) : Type 0 where

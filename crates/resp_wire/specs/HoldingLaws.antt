@@ -18,8 +18,8 @@ use Rattle.resp_wire.specs.Holding.{Words, Requests, HoldsRequests, Split, Reque
 pub reads_here : (a : List ℕ) → ReadsRequest a [] a
 reads_here a more = refl
 
-pub reads_then : (a b : List ℕ) (words : Words) (c : List ℕ) → ReadsRequest a [] b → ReadsRequest b words c → ReadsRequest a words c
-reads_then a b words c p q more = p more ∙ q more
+pub reads_both_requests : (a b : List ℕ) (words : Words) (c : List ℕ) → ReadsRequest a [] b → ReadsRequest b words c → ReadsRequest a words c
+reads_both_requests a b words c p q more = p more ∙ q more
 
 pub reads_fed : (a : List ℕ) (words : Words) (b piece : List ℕ) → ReadsRequest a words b → ReadsRequest (a ++ piece) words (b ++ piece)
 reads_fed a words b piece p more =

@@ -11,7 +11,7 @@ use Rattle.resp_wire.specs.declared.stop.ProtocolFault.TheVariants.{TooLong, Quo
 use Rattle.resp_wire.specs.declared.stop.Stop.{Stop}
 use Rattle.resp_wire.specs.declared.stop.Stop.TheVariants.{More, Bad}
 use Rattle.resp_wire.specs.Grammar.{Part, ◌>>=◌, line_feed, is_line_feed, is_quote, line_within, line, line_words, inline, header, request}
-use Rattle.resp_wire.specs.Lines.{onto, walk, is_stop, BeginsLine, IsSearched, Ended}
+use Rattle.resp_wire.specs.Lines.{with_byte, walk, is_stop, BeginsLine, IsSearched, Ended}
 
 walk_end : (most left : ℕ) → walk most left [] ≡ Err More
 unfolding walk
@@ -34,7 +34,7 @@ walk_quoted : (n left c : ℕ) (rest : List ℕ) → is_line_feed c ≡ false �
 unfolding walk
 walk_quoted n left c rest h q = rw (h, q) refl
 
-passed : (n left c : ℕ) (rest : List ℕ) → is_line_feed c ≡ false → is_quote c ≡ false → walk (suc n) left (c ∷ rest) ≡ (walk n left rest >>= onto c)
+passed : (n left c : ℕ) (rest : List ℕ) → is_line_feed c ≡ false → is_quote c ≡ false → walk (suc n) left (c ∷ rest) ≡ (walk n left rest >>= with_byte c)
 unfolding walk
 passed n left c rest h q = rw (h, q) refl
 
@@ -68,7 +68,7 @@ abbrev judged : Bool → ℕ → Bool → ℕ → Bool → List ℕ → List ℕ
 judged quoted quote long left ended front behind =
     if quoted then Err (Bad Quote quote) else if long then Err (Bad TooLong left) else if ended then Ok (front, behind) else Err More
 
-joined : (c : ℕ) (quoted : Bool) (quote : ℕ) (long : Bool) (left : ℕ) (ended : Bool) (front behind : List ℕ) → (judged quoted quote long left ended front behind >>= onto c) ≡ judged quoted quote long left ended (c ∷ front) behind
+joined : (c : ℕ) (quoted : Bool) (quote : ℕ) (long : Bool) (left : ℕ) (ended : Bool) (front behind : List ℕ) → (judged quoted quote long left ended front behind >>= with_byte c) ≡ judged quoted quote long left ended (c ∷ front) behind
 joined c true quote long left ended front behind = refl
 joined c false quote true left ended front behind = refl
 joined c false quote false left true front behind = refl
@@ -105,7 +105,7 @@ module _ (left c : ℕ) (rest : List ℕ) where
       let place : length (c ∷ rest) - position_or_len is_quote (c ∷ rest) ≡ length rest + 1 = omega (arith, first_here is_quote c rest q) in
       rw (before_later is_line_feed c rest h, or_here (is_quote c) (list_any is_quote (take n (before_first is_line_feed rest))) q, place) refl
 
-  goes_on : (n : ℕ) → is_line_feed c ≡ false → is_quote c ≡ false → line_within (suc n) left (c ∷ rest) ≡ (line_within n left rest >>= onto c)
+  goes_on : (n : ℕ) → is_line_feed c ≡ false → is_quote c ≡ false → line_within (suc n) left (c ∷ rest) ≡ (line_within n left rest >>= with_byte c)
   unfolding line_within
   goes_on n h q =
       let place : length (c ∷ rest) - position_or_len is_quote (c ∷ rest) ≡ length rest - position_or_len is_quote rest = omega (arith, first_later is_quote c rest q) in
@@ -124,7 +124,7 @@ line_is (suc n) left (c ∷ rest) = elim (cases_Bool (is_line_feed c)) [
   | inl h ↦ ends_here left c rest (suc n) h ∙ sym (walk_here (suc n) left c rest h)
   | inr h ↦ elim (cases_Bool (is_quote c)) [
     | inl q ↦ quote_here left c rest n h q ∙ sym (walk_quoted n left c rest h q)
-    | inr q ↦ goes_on left c rest n h q ∙ ap (λ (r : Part (List ℕ)). r >>= onto c) (line_is n left rest) ∙ sym (passed n left c rest h q)
+    | inr q ↦ goes_on left c rest n h q ∙ ap (λ (r : Part (List ℕ)). r >>= with_byte c) (line_is n left rest) ∙ sym (passed n left c rest h q)
   ]
 ]
 
@@ -145,7 +145,7 @@ no_front : (read : Part (List ℕ)) → read ≡ behind_front [] read
 no_front (Ok x) = refl
 no_front (Err e) = refl
 
-one_front : (c : ℕ) (front : List ℕ) (read : Part (List ℕ)) → (behind_front front read >>= onto c) ≡ behind_front (c ∷ front) read
+one_front : (c : ℕ) (front : List ℕ) (read : Part (List ℕ)) → (behind_front front read >>= with_byte c) ≡ behind_front (c ∷ front) read
 one_front c front (Ok x) = refl
 one_front c front (Err e) = refl
 
@@ -162,7 +162,7 @@ passes (suc n) (suc m) left (c ∷ rest) le inside plain =
     let here = neither c (plain 0 (omega arith)) in
     let later = passes n m left rest (omega arith) (omega arith) (λ k lt. plain (suc k) (omega arith)) in
     let less : suc m - suc n ≡ m - n = omega arith in
-    passed m left c rest here.0 here.1 ∙ ap (λ (r : Part (List ℕ)). r >>= onto c) later ∙ one_front c (take n rest) (walk (m - n) left (drop n rest)) ∙ ap (λ (k : ℕ). behind_front (c ∷ take n rest) (walk k left (drop n rest))) (sym less)
+    passed m left c rest here.0 here.1 ∙ ap (λ (r : Part (List ℕ)). r >>= with_byte c) later ∙ one_front c (take n rest) (walk (m - n) left (drop n rest)) ∙ ap (λ (k : ℕ). behind_front (c ∷ take n rest) (walk k left (drop n rest))) (sym less)
 
 module _ (n : ℕ) (bytes : List ℕ) (searched : IsSearched n bytes) where
   searched_on : line bytes ≡ behind_front (take n bytes) (walk (65536 - n) (length bytes) (drop n bytes))
@@ -191,7 +191,7 @@ module _ (n : ℕ) (bytes : List ℕ) (searched : IsSearched n bytes) where
   pub line_unended : n ≡ length bytes → line bytes ≡ Err More
   line_unended all = searched_on ∙ rw (drop_all n bytes (omega arith), walk_end (65536 - n) (length bytes)) refl
 
-stays_open : (c : ℕ) (r : Part (List ℕ)) → (r >>= onto c) ≡ Err More → r ≡ Err More
+stays_open : (c : ℕ) (r : Part (List ℕ)) → (r >>= with_byte c) ≡ Err More → r ≡ Err More
 stays_open c (Ok x) e = absurd cc
 stays_open c (Err s) e = cc
 
@@ -243,7 +243,7 @@ plain_all c rest h plain = All-cons (λ b. is_stop b ≡ false) c rest h plain
 same_read : (x y : List ℕ × List ℕ) → ◌≡◌ {A = Part (List ℕ)} (Ok x) (Ok y) → x ≡ y
 same_read x y e = cc
 
-ended_more : (n c : ℕ) (bytes : List ℕ) (r : Part (List ℕ)) (text rest : List ℕ) → is_stop c ≡ false → ((front : List ℕ) → r ≡ Ok (front, rest) → Ended n bytes front rest) → (r >>= onto c) ≡ Ok (text, rest) → Ended (suc n) (c ∷ bytes) text rest
+ended_more : (n c : ℕ) (bytes : List ℕ) (r : Part (List ℕ)) (text rest : List ℕ) → is_stop c ≡ false → ((front : List ℕ) → r ≡ Ok (front, rest) → Ended n bytes front rest) → (r >>= with_byte c) ≡ Ok (text, rest) → Ended (suc n) (c ∷ bytes) text rest
 ended_more n c bytes (Err e) text rest h before read = absurd cc
 ended_more n c bytes (Ok x) text rest h before read =
     let same = same_read (c ∷ x.0, x.1) (text, rest) read in

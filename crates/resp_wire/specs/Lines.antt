@@ -5,15 +5,15 @@ use Rattle.resp_wire.specs.declared.stop.Stop.TheVariants.{More, Bad}
 use Rattle.resp_wire.specs.Grammar.{Part, ◌>>=◌, star, line_feed, is_line_feed, is_quote, line, inline}
 
 -- a byte before a line that was read
-abbrev pub onto : ℕ → List ℕ × List ℕ → Part (List ℕ)
-onto c x = Ok (c ∷ x.0, x.1)
+abbrev pub with_byte : ℕ → List ℕ × List ℕ → Part (List ℕ)
+with_byte c x = Ok (c ∷ x.0, x.1)
 
 unfoldable pub walk : ℕ → ℕ → List ℕ → Part (List ℕ)
 walk zero left [] = Err More
 walk (suc n) left [] = Err More
 walk zero left (c ∷ rest) = if is_line_feed c then Ok ([], rest) else Err (Bad TooLong left)
 walk (suc n) left (c ∷ rest) =
-    if is_line_feed c then Ok ([], rest) else if is_quote c then Err (Bad Quote (length rest + 1)) else (walk n left rest >>= onto c)
+    if is_line_feed c then Ok ([], rest) else if is_quote c then Err (Bad Quote (length rest + 1)) else (walk n left rest >>= with_byte c)
 
 -- ---- searching
 

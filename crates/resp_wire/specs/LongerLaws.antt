@@ -11,8 +11,8 @@ use Rattle.resp_wire.specs.declared.parts.LengthLimit.{LengthLimit}
 use Rattle.resp_wire.specs.declared.parts.LengthLimit.TheVariants.{Words, Bytes}
 use Rattle.resp_wire.specs.declared.stop.Stop.{Stop}
 use Rattle.resp_wire.specs.declared.stop.Stop.TheVariants.{More, Bad}
-use Rattle.resp_wire.specs.Grammar.{Part, ◌>>=◌, mark, line_end, exceeds, with_digit, is_lone_zero, text_end, length_from, length_text, body, bulk, bulks, minus_one, count, array, is_quote, line, line_words, inline, header, request}
-use Rattle.resp_wire.specs.Lines.{onto, walk}
+use Rattle.resp_wire.specs.Grammar.{Part, ◌>>=◌, behind_byte, behind_line_end, exceeds, with_digit, is_lone_zero, text_end, length_from, length_text, body, bulk, bulk_words, minus_one, count, array, is_quote, line, line_words, inline, header, request}
+use Rattle.resp_wire.specs.Lines.{with_byte, walk}
 use Rattle.resp_wire.specs.LineLaws.{line_walk}
 use Rattle.resp_wire.specs.Longer.{Stays, part_on}
 
@@ -31,24 +31,24 @@ if_stays : {X : Type 0} (on : X → List ℕ → X) (b : Bool) (r r' s s' : Resu
 if_stays on true r r' s s' more p q = p
 if_stays on false r r' s s' more p q = q
 
-mark_stays : (byte : ℕ) (bytes more : List ℕ) → Stays ◌++◌ (mark byte bytes) (mark byte (bytes ++ more)) more
-unfolding mark
+mark_stays : (byte : ℕ) (bytes more : List ℕ) → Stays ◌++◌ (behind_byte byte bytes) (behind_byte byte (bytes ++ more)) more
+unfolding behind_byte
 mark_stays byte [] more = tt
 mark_stays byte (c ∷ rest) more =
     if_stays ◌++◌ (c == byte) (Ok rest) (bad BadMark (length rest + 1)) (Ok (rest ++ more)) (bad BadMark (length (rest ++ more) + 1)) more refl
     (ap (bad BadMark) (omega (arith, length-append rest more)))
 
-line_end_stays : (bytes more : List ℕ) → Stays ◌++◌ (line_end bytes) (line_end (bytes ++ more)) more
-unfolding line_end
-line_end_stays bytes more = then_stays ◌++◌ ◌++◌ (mark 13 bytes) (mark 13 (bytes ++ more)) (mark 10) (mark 10) more (mark_stays 13 bytes more) (λ rest. mark_stays 10 rest more)
+line_end_stays : (bytes more : List ℕ) → Stays ◌++◌ (behind_line_end bytes) (behind_line_end (bytes ++ more)) more
+unfolding behind_line_end
+line_end_stays bytes more = then_stays ◌++◌ ◌++◌ (behind_byte 13 bytes) (behind_byte 13 (bytes ++ more)) (behind_byte 10) (behind_byte 10) more (mark_stays 13 bytes more) (λ rest. mark_stays 10 rest more)
 
 text_end_stays : (left : ℕ) (so_far : Option ℕ) (bytes more : List ℕ) → Stays part_on (text_end left so_far bytes) (text_end (left + length more) so_far (bytes ++ more)) more
 unfolding text_end
 text_end_stays left None bytes more = refl
 text_end_stays left (Some n) [] more = tt
 text_end_stays left (Some n) (c ∷ rest) more =
-    if_stays part_on (c == 13) (mark 10 rest >>= λ behind. Ok (n, behind)) (bad BadLength left) (mark 10 (rest ++ more) >>= λ behind. Ok (n, behind)) (bad BadLength (left + length more)) more
-    (then_stays ◌++◌ part_on (mark 10 rest) (mark 10 (rest ++ more)) (λ behind. Ok (n, behind)) (λ behind. Ok (n, behind)) more (mark_stays 10 rest more) (λ behind. refl)) refl
+    if_stays part_on (c == 13) (behind_byte 10 rest >>= λ behind. Ok (n, behind)) (bad BadLength left) (behind_byte 10 (rest ++ more) >>= λ behind. Ok (n, behind)) (bad BadLength (left + length more)) more
+    (then_stays ◌++◌ part_on (behind_byte 10 rest) (behind_byte 10 (rest ++ more)) (λ behind. Ok (n, behind)) (λ behind. Ok (n, behind)) more (mark_stays 10 rest more) (λ behind. refl)) refl
 
 length_from_stays : (limit : LengthLimit) (left : ℕ) (so_far : Option ℕ) (bytes more : List ℕ) → Stays part_on (length_from limit left so_far bytes) (length_from limit (left + length more) so_far (bytes ++ more)) more
 unfolding length_from
@@ -73,23 +73,23 @@ body_stays n bytes more = elim (cases_lt (length bytes) n) [
       let t : nat_lt (length bytes) n ≡ false = grind (arith, common_steps) in
       let t' : nat_lt (length (bytes ++ more)) n ≡ false = grind (arith, common_steps, length-append bytes more) in
       rw (t, t', take-append-le n bytes more le, drop-append-le n bytes more le)
-      (then_stays ◌++◌ part_on (line_end (drop n bytes)) (line_end (drop n bytes ++ more)) (λ behind. Ok (take n bytes, behind)) (λ behind. Ok (take n bytes, behind)) more (line_end_stays (drop n bytes) more) (λ behind. refl))
+      (then_stays ◌++◌ part_on (behind_line_end (drop n bytes)) (behind_line_end (drop n bytes ++ more)) (λ behind. Ok (take n bytes, behind)) (λ behind. Ok (take n bytes, behind)) more (line_end_stays (drop n bytes) more) (λ behind. refl))
 ]
 
 pub bulk_stays : (room : ℕ) (bytes more : List ℕ) → Stays part_on (bulk room bytes) (bulk room (bytes ++ more)) more
 unfolding bulk
 bulk_stays room bytes more =
     let word : List ℕ → Part (List ℕ) = λ behind. length_text (Bytes room) behind >>= λ n. body n.0 n.1 in
-    then_stays ◌++◌ part_on (mark 36 bytes) (mark 36 (bytes ++ more)) word word more (mark_stays 36 bytes more)
+    then_stays ◌++◌ part_on (behind_byte 36 bytes) (behind_byte 36 (bytes ++ more)) word word more (mark_stays 36 bytes more)
     (λ behind. then_stays part_on part_on (length_text (Bytes room) behind) (length_text (Bytes room) (behind ++ more)) (λ n. body n.0 n.1) (λ n. body n.0 n.1) more (length_text_stays (Bytes room) behind more) (λ n. body_stays n.0 n.1 more))
 
-pub bulks_stays : (n room : ℕ) (bytes more : List ℕ) → Stays part_on (bulks n room bytes) (bulks n room (bytes ++ more)) more
-unfolding bulks
+pub bulks_stays : (n room : ℕ) (bytes more : List ℕ) → Stays part_on (bulk_words n room bytes) (bulk_words n room (bytes ++ more)) more
+unfolding bulk_words
 bulks_stays zero room bytes more = refl
 bulks_stays (suc n) room bytes more =
-    let others : List ℕ × List ℕ → Part (List (List ℕ)) = λ first. bulks n (room - (length first.0 + 16)) first.1 >>= λ others. Ok (first.0 ∷ others.0, others.1) in
+    let others : List ℕ × List ℕ → Part (List (List ℕ)) = λ first. bulk_words n (room - (length first.0 + 16)) first.1 >>= λ others. Ok (first.0 ∷ others.0, others.1) in
     then_stays part_on part_on (bulk room bytes) (bulk room (bytes ++ more)) others others more (bulk_stays room bytes more)
-    (λ first. then_stays part_on part_on (bulks n (room - (length first.0 + 16)) first.1) (bulks n (room - (length first.0 + 16)) (first.1 ++ more)) (λ others. Ok (first.0 ∷ others.0, others.1)) (λ others. Ok (first.0 ∷ others.0, others.1)) more (bulks_stays n (room - (length first.0 + 16)) first.1 more) (λ others. refl))
+    (λ first. then_stays part_on part_on (bulk_words n (room - (length first.0 + 16)) first.1) (bulk_words n (room - (length first.0 + 16)) (first.1 ++ more)) (λ others. Ok (first.0 ∷ others.0, others.1)) (λ others. Ok (first.0 ∷ others.0, others.1)) more (bulks_stays n (room - (length first.0 + 16)) first.1 more) (λ others. refl))
 
 minus_one_stays : (left : ℕ) (bytes more : List ℕ) → Stays part_on (minus_one left bytes) (minus_one (left + length more) (bytes ++ more)) more
 unfolding minus_one
@@ -106,7 +106,7 @@ count_stays (c ∷ bytes) more =
 
 array_stays : (bytes more : List ℕ) → Stays part_on (array bytes) (array (bytes ++ more)) more
 unfolding array
-array_stays bytes more = then_stays part_on part_on (count bytes) (count (bytes ++ more)) (λ n. bulks n.0 16777216 n.1) (λ n. bulks n.0 16777216 n.1) more (count_stays bytes more) (λ n. bulks_stays n.0 16777216 n.1 more)
+array_stays bytes more = then_stays part_on part_on (count bytes) (count (bytes ++ more)) (λ n. bulk_words n.0 16777216 n.1) (λ n. bulk_words n.0 16777216 n.1) more (count_stays bytes more) (λ n. bulks_stays n.0 16777216 n.1 more)
 
 -- ---- inline lines
 
@@ -117,9 +117,9 @@ walk_stays (suc n) left [] more = tt
 walk_stays zero left (c ∷ rest) more = if_stays part_on (c == 10) (Ok ([], rest)) (bad TooLong left) (Ok ([], rest ++ more)) (bad TooLong (left + length more)) more refl refl
 walk_stays (suc n) left (c ∷ rest) more =
     if_stays part_on (c == 10) (Ok ([], rest)) _ (Ok ([], rest ++ more)) _ more refl
-    (if_stays part_on (is_quote c) (bad Quote (length rest + 1)) (walk n left rest >>= onto c) (bad Quote (length (rest ++ more) + 1)) (walk n (left + length more) (rest ++ more) >>= onto c) more
+    (if_stays part_on (is_quote c) (bad Quote (length rest + 1)) (walk n left rest >>= with_byte c) (bad Quote (length (rest ++ more) + 1)) (walk n (left + length more) (rest ++ more) >>= with_byte c) more
     (ap (bad Quote) (omega (arith, length-append rest more)))
-    (then_stays part_on part_on (walk n left rest) (walk n (left + length more) (rest ++ more)) (onto c) (onto c) more (walk_stays n left rest more) (λ x. refl)))
+    (then_stays part_on part_on (walk n left rest) (walk n (left + length more) (rest ++ more)) (with_byte c) (with_byte c) more (walk_stays n left rest more) (λ x. refl)))
 
 pub line_stays : (bytes more : List ℕ) → Stays part_on (line bytes) (line (bytes ++ more)) more
 line_stays bytes more =

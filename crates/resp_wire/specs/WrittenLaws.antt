@@ -16,14 +16,14 @@ use Rattle.resp_wire.specs.declared.stop.Stop.{Stop}
 use Rattle.resp_wire.specs.declared.stop.Stop.TheVariants.{More, Bad}
 use Rattle.resp_wire.specs.declared.parts.LengthLimit.{LengthLimit}
 use Rattle.resp_wire.specs.declared.parts.LengthLimit.TheVariants.{Words, Bytes}
-use Rattle.resp_wire.specs.Grammar.{Part, End, requests, after_request, ◌>>=◌, star, dollar, carriage_return, line_feed, mark, line_end, exceeds, with_digit, text_end, length_from, length_text, body, bulk, bulks, minus_one, count, array, is_blank, is_word, line, line_words, inline, request}
+use Rattle.resp_wire.specs.Grammar.{Part, End, requests, after_request, ◌>>=◌, star, dollar, carriage_return, line_feed, behind_byte, behind_line_end, exceeds, with_digit, text_end, length_from, length_text, body, bulk, bulk_words, minus_one, count, array, is_blank, is_word, line, line_words, inline, request}
 use Rattle.resp_wire.specs.LineLaws.{line_written}
 use Rattle.resp_wire.specs.Reading.{ReadsRequest}
 use Rattle.resp_wire.specs.Behind.{Shortens}
 use Rattle.resp_wire.specs.BehindLaws.{request_shortens}
 use Rattle.resp_wire.specs.RequestLaws.{requests_is}
-use Rattle.resp_wire.specs.Encoding.{length_line, word_text, request_text, null_text, cost, IsWithinLimits, IsRequest, OnlyTextsAreRead, WordsAreWithinLimits}
-use Rattle.resp_wire.specs.EncodingLaws.{small}
+use Rattle.resp_wire.specs.Encoding.{length_line, bulk_text, request_text, null_text, cost, IsWithinLimits, IsRequest, OnlyTextsAreRead, WordsAreWithinLimits}
+use Rattle.resp_wire.specs.EncodingLaws.{limit_is_small}
 
 -- ---- what a part that was read goes back to
 
@@ -49,8 +49,8 @@ same_ok x y e = cc
 
 -- ---- bytes
 
-mark_written : (byte : ℕ) (bytes rest : List ℕ) → mark byte bytes ≡ Ok rest → bytes ≡ byte ∷ rest
-unfolding mark
+mark_written : (byte : ℕ) (bytes rest : List ℕ) → behind_byte byte bytes ≡ Ok rest → bytes ≡ byte ∷ rest
+unfolding behind_byte
 mark_written byte [] rest e = absurd cc
 mark_written byte (c ∷ bytes) rest e =
     let found = if_first (c == byte) (Ok bytes) (Bad BadMark (length bytes + 1)) rest e in
@@ -58,10 +58,10 @@ mark_written byte (c ∷ bytes) rest e =
     let behind : bytes ≡ rest = (let t = found.1 in cc) in
     cc
 
-line_end_written : (bytes rest : List ℕ) → line_end bytes ≡ Ok rest → bytes ≡ carriage_return ∷ line_feed ∷ rest
-unfolding line_end
+line_end_written : (bytes rest : List ℕ) → behind_line_end bytes ≡ Ok rest → bytes ≡ carriage_return ∷ line_feed ∷ rest
+unfolding behind_line_end
 line_end_written bytes rest e =
-    let found = then_ok (mark carriage_return bytes) (mark line_feed) rest e in
+    let found = then_ok (behind_byte carriage_return bytes) (behind_byte line_feed) rest e in
     mark_written carriage_return bytes found.0 found.1.0 ∙ ap (λ (behind : List ℕ). carriage_return ∷ behind) (mark_written line_feed found.0 rest found.1.1)
 
 -- ---- lengths
@@ -70,8 +70,8 @@ text_end_written : (left n : ℕ) (bytes : List ℕ) (m : ℕ) (rest : List ℕ)
 unfolding text_end
 text_end_written left n [] m rest e = absurd cc
 text_end_written left n (c ∷ bytes) m rest e =
-    let found = if_first (c == carriage_return) (mark line_feed bytes >>= λ behind. Ok (n, behind)) (Bad BadLength left) (m, rest) e in
-    let read = then_ok (mark line_feed bytes) (λ behind. Ok (n, behind)) (m, rest) found.1 in
+    let found = if_first (c == carriage_return) (behind_byte line_feed bytes >>= λ behind. Ok (n, behind)) (Bad BadLength left) (m, rest) e in
+    let read = then_ok (behind_byte line_feed bytes) (λ behind. Ok (n, behind)) (m, rest) found.1 in
     let same : (n, read.0) ≡ (m, rest) = same_ok (n, read.0) (m, rest) read.1.1 in
     let is : c ≡ carriage_return = (let t = found.0 in grind (arith, common_steps)) in (
       ap (λ (x : ℕ × List ℕ). x.0) same,
@@ -83,10 +83,10 @@ digit_bounds c h = (grind (arith, common_steps), grind (arith, common_steps))
 
 -- a further digit
 digit_added : (n c m : ℕ) → m ≡ n * 10 + (c - 48) → 0 < n → 48 ≤ c → c < 58 → m < 2 ^ 64 → decimal m ≡ decimal n ++ c ∷ []
-digit_added n c m e some low high small =
+digit_added n c m e some low high limit_is_small =
     let tens : m / 10 ≡ n = omega arith in
     let ones : 48 + m % 10 ≡ c = omega arith in
-    decimal_step m (omega arith) small ∙ ap (λ (k : ℕ). decimal k ++ (48 + m % 10) ∷ []) tens ∙ ap (λ (d : ℕ). decimal n ++ d ∷ []) ones
+    decimal_step m (omega arith) limit_is_small ∙ ap (λ (k : ℕ). decimal k ++ (48 + m % 10) ∷ []) tens ∙ ap (λ (d : ℕ). decimal n ++ d ∷ []) ones
 
 first_digit : (c m : ℕ) → m ≡ 0 * 10 + (c - 48) → 48 ≤ c → c < 58 → decimal m ≡ c ∷ []
 first_digit c m e low high = let k : 48 + m ≡ c = omega arith in decimal_digit m (omega arith) ∙ ap (λ (d : ℕ). d ∷ []) k
@@ -105,7 +105,7 @@ number_written limit left n (c ∷ bytes) m rest h e = elim (if_ok (not (is_asci
       let below = if_later (exceeds limit (with_digit (Some n) c)) (Bad TooLong left) _ (m, rest) some.1 in
       let on = number_written limit left (with_digit (Some n) c) bytes m rest below.0 below.1 in
       let pos : 0 < n = (let t = some.0 in grind (arith, common_steps)) in
-      let added = digit_added n c (with_digit (Some n) c) refl pos bounds.0 bounds.1 (small limit (with_digit (Some n) c) below.0) in
+      let added = digit_added n c (with_digit (Some n) c) refl pos bounds.0 bounds.1 (limit_is_small limit (with_digit (Some n) c) below.0) in
       (on.0, sym (append_assoc (decimal n) (c ∷ []) bytes) ∙ ap (λ (d : List ℕ). d ++ bytes) (sym added) ∙ on.1)
 ]
 
@@ -126,7 +126,7 @@ body_written : (n : ℕ) (bytes word rest : List ℕ) → body n bytes ≡ Ok (w
 unfolding body
 body_written n bytes word rest e =
     let there = if_later (nat_lt (length bytes) n) More _ (word, rest) e in
-    let found = then_ok (line_end (drop n bytes)) (λ behind. Ok (take n bytes, behind)) (word, rest) there.1 in
+    let found = then_ok (behind_line_end (drop n bytes)) (λ behind. Ok (take n bytes, behind)) (word, rest) there.1 in
     let same : (take n bytes, found.0) ≡ (word, rest) = same_ok (take n bytes, found.0) (word, rest) found.1.1 in
     let long : n ≤ length bytes = (let t = there.0 in grind (arith, common_steps)) in
     let is : take n bytes ≡ word = ap (λ (x : List ℕ × List ℕ). x.0) same in (
@@ -134,14 +134,14 @@ body_written n bytes word rest e =
       sym (take-append-drop n bytes) ∙ ap (λ (b : List ℕ). take n bytes ++ b) (line_end_written (drop n bytes) found.0 found.1.0) ∙ ap (λ (x : List ℕ × List ℕ). x.0 ++ carriage_return ∷ line_feed ∷ x.1) same,
     )
 
-bulk_written : (room : ℕ) (bytes word rest : List ℕ) → bulk room bytes ≡ Ok (word, rest) → (exceeds (Bytes room) (length word) ≡ false) × (bytes ≡ word_text word ++ rest)
+bulk_written : (room : ℕ) (bytes word rest : List ℕ) → bulk room bytes ≡ Ok (word, rest) → (exceeds (Bytes room) (length word) ≡ false) × (bytes ≡ bulk_text word ++ rest)
 unfolding bulk
 bulk_written room bytes word rest e =
-    let marked = then_ok (mark dollar bytes) (λ behind. length_text (Bytes room) behind >>= λ n. body n.0 n.1) (word, rest) e in
+    let marked = then_ok (behind_byte dollar bytes) (λ behind. length_text (Bytes room) behind >>= λ n. body n.0 n.1) (word, rest) e in
     let counted = then_ok (length_text (Bytes room) marked.0) (λ n. body n.0 n.1) (word, rest) marked.1.1 in
     let number = length_text_written (Bytes room) marked.0 counted.0.0 counted.0.1 counted.1.0 in
     let found = body_written counted.0.0 counted.0.1 word rest counted.1.1 in
-    let flat : word_text word ++ rest ≡ dollar ∷ (decimal (length word) ++ carriage_return ∷ line_feed ∷ (word ++ carriage_return ∷ line_feed ∷ rest)) = simp append_assoc in (
+    let flat : bulk_text word ++ rest ≡ dollar ∷ (decimal (length word) ++ carriage_return ∷ line_feed ∷ (word ++ carriage_return ∷ line_feed ∷ rest)) = simp append_assoc in (
       ap (exceeds (Bytes room)) found.0 ∙ number.0,
       mark_written dollar bytes marked.0 marked.1.0 ∙ ap (λ (b : List ℕ). dollar ∷ b) (number.1 ∙ ap (λ (b : List ℕ). decimal counted.0.0 ++ carriage_return ∷ line_feed ∷ b) found.1)
           ∙ ap (λ (k : ℕ). dollar ∷ (decimal k ++ carriage_return ∷ line_feed ∷ (word ++ carriage_return ∷ line_feed ∷ rest))) (sym found.0) ∙ sym flat,
@@ -151,9 +151,9 @@ record Written (n room : ℕ) (bytes : List ℕ) (words : List (List ℕ)) (rest
   count : length words ≡ n
   each : All (λ word. length word ≤ 1048576) words
   all : sum_by cost words ≤ room
-  is : bytes ≡ flat_map word_text words ++ rest
+  is : bytes ≡ flat_map bulk_text words ++ rest
 
-one_more : (n room : ℕ) (bytes word behind : List ℕ) (words : List (List ℕ)) (rest : List ℕ) → (exceeds (Bytes room) (length word) ≡ false) × (bytes ≡ word_text word ++ behind)
+one_more : (n room : ℕ) (bytes word behind : List ℕ) (words : List (List ℕ)) (rest : List ℕ) → (exceeds (Bytes room) (length word) ≡ false) × (bytes ≡ bulk_text word ++ behind)
     → Written n (room - (length word + 16)) behind words rest → Written (suc n) room bytes (word ∷ words) rest
 one_more n room bytes word behind words rest first others =
     let limit : length word ≤ 1048576 = (let t = first.0 in grind (arith, common_steps)) in
@@ -163,18 +163,18 @@ one_more n room bytes word behind words rest first others =
       count = omega (arith, others.count);
       each = All-cons (λ (w : List ℕ). length w ≤ 1048576) word words limit others.each;
       all = rw sum_by-cons total;
-      is = first.1 ∙ ap (λ (b : List ℕ). word_text word ++ b) others.is ∙ sym (append_assoc (word_text word) (flat_map word_text words) rest);
+      is = first.1 ∙ ap (λ (b : List ℕ). bulk_text word ++ b) others.is ∙ sym (append_assoc (bulk_text word) (flat_map bulk_text words) rest);
     }
 
-bulks_written : (n room : ℕ) (bytes : List ℕ) (words : List (List ℕ)) (rest : List ℕ) → bulks n room bytes ≡ Ok (words, rest) → Written n room bytes words rest
-unfolding bulks
+bulks_written : (n room : ℕ) (bytes : List ℕ) (words : List (List ℕ)) (rest : List ℕ) → bulk_words n room bytes ≡ Ok (words, rest) → Written n room bytes words rest
+unfolding bulk_words
 bulks_written zero room bytes words rest e =
     let same : ([], bytes) ≡ (words, rest) = same_ok ([], bytes) (words, rest) e in
     let P : List (List ℕ) × List ℕ → Type 0 = λ x. Written 0 room bytes x.0 x.1 in
     subst P same (record { count = refl; each = All-nil (λ (w : List ℕ). length w ≤ 1048576); all = omega arith; is = refl })
 bulks_written (suc n) room bytes words rest e =
-    let first = then_ok (bulk room bytes) (λ first. bulks n (room - (length first.0 + 16)) first.1 >>= λ others. Ok (first.0 ∷ others.0, others.1)) (words, rest) e in
-    let others = then_ok (bulks n (room - (length first.0.0 + 16)) first.0.1) (λ others. Ok (first.0.0 ∷ others.0, others.1)) (words, rest) first.1.1 in
+    let first = then_ok (bulk room bytes) (λ first. bulk_words n (room - (length first.0 + 16)) first.1 >>= λ others. Ok (first.0 ∷ others.0, others.1)) (words, rest) e in
+    let others = then_ok (bulk_words n (room - (length first.0.0 + 16)) first.0.1) (λ others. Ok (first.0.0 ∷ others.0, others.1)) (words, rest) first.1.1 in
     let same : (first.0.0 ∷ others.0.0, others.0.1) ≡ (words, rest) = same_ok (first.0.0 ∷ others.0.0, others.0.1) (words, rest) others.1.1 in
     let P : List (List ℕ) × List ℕ → Type 0 = λ x. Written (suc n) room bytes x.0 x.1 in
     subst P same (one_more n room bytes first.0.0 first.0.1 others.0.0 others.0.1 (bulk_written room bytes first.0.0 first.0.1 first.1.0) (bulks_written n (room - (length first.0.0 + 16)) first.0.1 others.0.0 others.0.1 others.1.0))
@@ -206,8 +206,8 @@ count_written (c ∷ bytes) n rest e = elim (if_ok (c == 45) (minus_one (length 
       inl (found.0, ap (λ (b : List ℕ). star ∷ b) (found.1 ∙ sym (append_assoc (decimal n) (carriage_return ∷ line_feed ∷ []) rest)))
 ]
 
-nothing_written : (n room : ℕ) (bytes : List ℕ) (words : List (List ℕ)) (rest : List ℕ) → n ≡ 0 → bulks n room bytes ≡ Ok (words, rest) → (words ≡ []) × (bytes ≡ rest)
-unfolding bulks
+nothing_written : (n room : ℕ) (bytes : List ℕ) (words : List (List ℕ)) (rest : List ℕ) → n ≡ 0 → bulk_words n room bytes ≡ Ok (words, rest) → (words ≡ []) × (bytes ≡ rest)
+unfolding bulk_words
 nothing_written zero room bytes words rest none e =
     let same : ([], bytes) ≡ (words, rest) = same_ok ([], bytes) (words, rest) e in
     (sym (ap (λ (x : List (List ℕ) × List ℕ). x.0) same), ap (λ (x : List (List ℕ) × List ℕ). x.1) same)
@@ -262,8 +262,8 @@ stripped text = grind (arith, common_steps, length-take-le)
 line_words_within : (text : List ℕ) → length text ≤ 65536 → IsWithinLimits (line_words text)
 unfolding line_words
 line_words_within text fits =
-    let small = few (slice_split is_blank (strip_carriage_return text)) 65537 (omega (arith, split_cost is_blank (strip_carriage_return text), stripped text)) in
-    record { count = omega (arith, small.count); each = λ k d lt. let le = small.each k d lt in omega arith; all = omega (arith, small.all) }
+    let limit_is_small = few (slice_split is_blank (strip_carriage_return text)) 65537 (omega (arith, split_cost is_blank (strip_carriage_return text), stripped text)) in
+    record { count = omega (arith, limit_is_small.count); each = λ k d lt. let le = limit_is_small.each k d lt in omega arith; all = omega (arith, limit_is_small.all) }
 
 -- ---- requests
 
@@ -276,7 +276,7 @@ no_words = record { count = omega arith; each = All-nil (λ (w : List ℕ). leng
 array_written : (bytes : List ℕ) (words : List (List ℕ)) (rest : List ℕ) → array bytes ≡ Ok (words, rest) → RequestWritten (star ∷ bytes) words rest
 unfolding array
 array_written bytes words rest e =
-    let counted = then_ok (count bytes) (λ n. bulks n.0 16777216 n.1) (words, rest) e in
+    let counted = then_ok (count bytes) (λ n. bulk_words n.0 16777216 n.1) (words, rest) e in
     elim (count_written bytes counted.0.0 counted.0.1 counted.1.0) [
       | inl plain ↦
           let found = bulks_written counted.0.0 16777216 counted.0.1 words rest counted.1.1 in
@@ -286,7 +286,7 @@ array_written bytes words rest e =
               request_text words,
               inl refl,
               plain.1 ∙ ap (λ (k : ℕ). length_line star k ++ counted.0.1) (sym found.count) ∙ ap (λ (b : List ℕ). length_line star (length words) ++ b) found.is
-                  ∙ sym (append_assoc (length_line star (length words)) (flat_map word_text words) rest),
+                  ∙ sym (append_assoc (length_line star (length words)) (flat_map bulk_text words) rest),
             ),
           )
       | inr null ↦

@@ -1,6 +1,6 @@
 ghost use Rattle.std.specs.Prelude.{◌≡◌};
 ghost use Rattle.kv_outside.specs.Writing.{Writes};
-ghost use Rattle.resp_wire.specs.Fault.{fault_line, fault_of, fault_text};
+ghost use Rattle.resp_wire.specs.Fault.{fault_line, wire_fault, fault_text};
 
 use crate::stop::ProtocolFault;
 use itoa::Buffer;
@@ -24,7 +24,7 @@ pub enum WireFault {
 }
 
 impl From<ProtocolFault> for WireFault {
-    ghost from_gives = { λ kind fault. fault ≡ fault_of kind };
+    ghost from_gives = { λ kind fault. fault ≡ wire_fault kind };
 
     fn from(kind: ProtocolFault) -> WireFault {
         match kind {

@@ -1,7 +1,7 @@
 //! The parts of an array. Each function answers its part and the text behind it, and allocates nothing.
 
 ghost use Rattle.std.specs.Prelude.{◌≡◌, ◌≤◌};
-ghost use Rattle.resp_wire.specs.Grammar.{mark as mark_at, line_end as line_at, exceeds as exceeds_at, text_end as text_at, length_text as length_at, body as body_at, bulk as bulk_at, minus_one as minus_at, count as count_at};
+ghost use Rattle.resp_wire.specs.Grammar.{behind_byte as mark_at, behind_line_end as line_at, exceeds as exceeds_at, text_end as text_at, length_text as length_at, body as body_at, bulk as bulk_at, minus_one as minus_at, count as count_at};
 ghost use Rattle.resp_wire.specs.Parts.{Gives};
 
 use crate::stop::{ProtocolFault, Stop};
@@ -25,7 +25,7 @@ pub enum LengthLimit {
 }
 
 /// The text behind this byte.
-#[tactic(auto, unfolding(crate::specs::Grammar::mark))]
+#[tactic(auto, unfolding(crate::specs::Grammar::behind_byte))]
 fn mark(byte: u8, bytes: &[u8]) -> Result<&[u8], Stop>
     ensures { Gives (λ rest. rest.now) result (mark_at byte bytes.now) }
 {
@@ -42,7 +42,7 @@ fn mark(byte: u8, bytes: &[u8]) -> Result<&[u8], Stop>
 }
 
 /// The text behind a line end.
-#[tactic(auto, unfolding(crate::specs::Grammar::line_end))]
+#[tactic(auto, unfolding(crate::specs::Grammar::behind_line_end))]
 fn line_end(bytes: &[u8]) -> Result<&[u8], Stop>
     ensures { Gives (λ rest. rest.now) result (line_at bytes.now) }
 {

@@ -4,28 +4,13 @@ use Rattle.std.specs.Prelude.{◌&&◌, ◌⊎◌, T, map, Some, None}
 use Rattle.std.specs.List.{Contains}
 use Rattle.std.specs.FinMap.Entries.{find, is_sorted, below_all}
 use Rattle.std.specs.declared.cmp.Ordering.{Ordering}
-use Rattle.std.specs.declared.cmp.Ordering.TheVariants.{Less, Equal, Greater}
 use Rattle.std.specs.Ordering.{is_lt, is_eq}
+use Rattle.kv_base.specs.TestLaws.{first, second, less}
 use Rattle.kv_base.specs.Map.{Bytes, byte_cmp, same, same_is, same_itself, get}
 use Rattle.batch_codec.specs.Batches.{BatchEntry, Batch}
 use Rattle.kv_base.specs.declared.row.Row.{Row}
-use Rattle.row_model.specs.Rows.{row_of, batch_rows}
+use Rattle.row_model.specs.Rows.{entry_row, batch_rows}
 use Rattle.row_model.specs.RowLaws.{there_cases, there_never}
-
--- the parts of a test that holds
-first : (a b : Bool) → T (a && b) → T a
-first true b p = tt
-first false b p = p
-
-second : (a b : Bool) → T (a && b) → T b
-second true b p = p
-second false b p = absurd p
-
--- what an order is, by its test
-less : (o : Ordering) → T (is_lt o) → o ≡ Less
-less Less p = refl
-less Equal p = absurd p
-less Greater p = absurd p
 
 -- a raw key below all of a list is not found there
 none_below : (q : Bytes) (es : List BatchEntry) → T (below_all byte_cmp q es) → find byte_cmp q es ≡ None
@@ -35,10 +20,10 @@ none_below q (e ∷ es) h =
     ∙ none_below q es (second (is_lt (byte_cmp q e.0)) (below_all byte_cmp q es) h)
 
 -- a row of a sorted list of entries is found at its raw key
-found_entry : (seq : ℕ) (es : List BatchEntry) (row : Row) → T (is_sorted byte_cmp es) → Contains (map (row_of seq) es) row → (row.seq ≡ seq) × (find byte_cmp row.raw es ≡ Some row.value)
+found_entry : (seq : ℕ) (es : List BatchEntry) (row : Row) → T (is_sorted byte_cmp es) → Contains (map (entry_row seq) es) row → (row.seq ≡ seq) × (find byte_cmp row.raw es ≡ Some row.value)
 found_entry seq [] row sorted there = absurd (there_never row there)
 found_entry seq (e ∷ es) row sorted there =
-    by_place (λ behind. found_entry seq es row (second (below_all byte_cmp e.0 es) (is_sorted byte_cmp es) sorted) behind) (there_cases (map (row_of seq) es) row (row_of seq e) there)
+    by_place (λ behind. found_entry seq es row (second (below_all byte_cmp e.0 es) (is_sorted byte_cmp es) sorted) behind) (there_cases (map (entry_row seq) es) row (entry_row seq e) there)
   where
     by_test : (b : Bool) → same row.raw e.0 ≡ b → find byte_cmp row.raw es ≡ Some row.value → cond b (Some e.1) (find byte_cmp row.raw es) ≡ Some row.value
     by_test true t there =
@@ -46,7 +31,7 @@ found_entry seq (e ∷ es) row sorted there =
         absurd (cc)
     by_test false t there = there
 
-    by_place : (Contains (map (row_of seq) es) row → (row.seq ≡ seq) × (find byte_cmp row.raw es ≡ Some row.value)) → (row_of seq e ≡ row) ⊎ Contains (map (row_of seq) es) row
+    by_place : (Contains (map (entry_row seq) es) row → (row.seq ≡ seq) × (find byte_cmp row.raw es ≡ Some row.value)) → (entry_row seq e ≡ row) ⊎ Contains (map (entry_row seq) es) row
         → (row.seq ≡ seq) × (find byte_cmp row.raw (e ∷ es) ≡ Some row.value)
     by_place rest (inl is) = (
       sym (ap (λ (r : Row). r.seq) is),

@@ -9,7 +9,7 @@ use Rattle.std.specs.Cmp.Lexicographic.{nat_list_cmp_total}
 use Rattle.std.proofs.lemmas.Bool.Decides.{nat_tests}
 use Rattle.kv_base.specs.Map.{Bytes, byte_cmp}
 use Rattle.kv_base.specs.declared.row.Row.{Row}
-use Rattle.row_model.specs.Rows.{shown, newer, seen_at}
+use Rattle.row_model.specs.Rows.{shown_at, newer, seen_at}
 use Rattle.row_model.specs.RowOrder.{row_cmp, placed, merged}
 use Rattle.row_model.specs.RowLaws.{newer_none, newer_assoc, shown_is}
 
@@ -26,10 +26,10 @@ order_falls row other is order =
     grind (arith, nat_tests)
 
 -- a row changes places with one that stands in front of it
-commuted : (row other : Row) (s : ℕ) (raw : Bytes) → row_cmp row other ≡ Greater → newer (shown s raw row) (shown s raw other) ≡ newer (shown s raw other) (shown s raw row)
-commuted row other s raw order = by_shown (shown s raw row) (shown s raw other) refl refl
+commuted : (row other : Row) (s : ℕ) (raw : Bytes) → row_cmp row other ≡ Greater → newer (shown_at s raw row) (shown_at s raw other) ≡ newer (shown_at s raw other) (shown_at s raw row)
+commuted row other s raw order = by_shown (shown_at s raw row) (shown_at s raw other) refl refl
   where
-    by_shown : (a b : Option Row) → shown s raw row ≡ a → shown s raw other ≡ b → newer a b ≡ newer b a
+    by_shown : (a b : Option Row) → shown_at s raw row ≡ a → shown_at s raw other ≡ b → newer a b ≡ newer b a
     by_shown None b p q = sym (newer_none b)
     by_shown (Some x) None p q = refl
     by_shown (Some x) (Some y) p q =
@@ -45,11 +45,11 @@ commuted row other s raw order = by_shown (shown s raw row) (shown s raw other) 
         ap (λ b. cond b (Some y) (Some x)) yes ∙ sym (ap (λ b. cond b (Some x) (Some y)) never)
 
 placed_by : (row other : Row) (rows : List Row) (s : ℕ) (raw : Bytes) → seen_at (placed row rows) s raw ≡ seen_at (row ∷ rows) s raw → (o : Ordering) → row_cmp row other ≡ o
-    → seen_at (cond (is_le o) (row ∷ other ∷ rows) (other ∷ placed row rows)) s raw ≡ newer (shown s raw row) (newer (shown s raw other) (seen_at rows s raw))
+    → seen_at (cond (is_le o) (row ∷ other ∷ rows) (other ∷ placed row rows)) s raw ≡ newer (shown_at s raw row) (newer (shown_at s raw other) (seen_at rows s raw))
 unfolding seen_at
 placed_by row other rows s raw behind Less e = refl
 placed_by row other rows s raw behind Equal e = refl
-placed_by row other rows s raw behind Greater e = ap (newer (shown s raw other)) behind ∙ swapped (shown s raw row) (shown s raw other) (seen_at rows s raw) (commuted row other s raw e)
+placed_by row other rows s raw behind Greater e = ap (newer (shown_at s raw other)) behind ∙ swapped (shown_at s raw row) (shown_at s raw other) (seen_at rows s raw) (commuted row other s raw e)
 
 pub seen_placed : (row : Row) (rows : List Row) (s : ℕ) (raw : Bytes) → seen_at (placed row rows) s raw ≡ seen_at (row ∷ rows) s raw
 unfolding seen_at placed
@@ -59,4 +59,4 @@ seen_placed row (other ∷ rows) s raw = placed_by row other rows s raw (seen_pl
 pub seen_merged : (rows more : List Row) (s : ℕ) (raw : Bytes) → seen_at (merged rows more) s raw ≡ seen_at (more ++ rows) s raw
 unfolding seen_at merged
 seen_merged rows [] s raw = refl
-seen_merged rows (row ∷ more) s raw = seen_placed row (merged rows more) s raw ∙ ap (newer (shown s raw row)) (seen_merged rows more s raw)
+seen_merged rows (row ∷ more) s raw = seen_placed row (merged rows more) s raw ∙ ap (newer (shown_at s raw row)) (seen_merged rows more s raw)

@@ -8,7 +8,7 @@ use Rattle.kv_base.specs.InversionLaws.{both_first, both_second}
 use Rattle.kv_base.specs.Map.{Bytes, byte_cmp, same, same_is, same_itself, get}
 use Rattle.batch_codec.specs.Batches.{BatchEntry, Batch}
 use Rattle.kv_base.specs.declared.row.Row.{Row}
-use Rattle.row_model.specs.Rows.{are_upto, shown, newer, seen_at, IsNewestAt, row_of, batch_rows, AreApart, HaveSameRows}
+use Rattle.row_model.specs.Rows.{are_upto, shown_at, newer, seen_at, IsNewestAt, entry_row, batch_rows, AreApart, HaveSameRows}
 
 -- ---- the newer of two
 
@@ -34,11 +34,11 @@ newer_assoc (Some x) (Some y) (Some z) = newer_by x y z _ _ _ refl refl refl
 pub seen_in_both : (rows others : List Row) (s : ℕ) (raw : Bytes) → seen_at (rows ++ others) s raw ≡ newer (seen_at rows s raw) (seen_at others s raw)
 unfolding seen_at
 seen_in_both [] others s raw = refl
-seen_in_both (row ∷ rows) others s raw = ap (newer (shown s raw row)) (seen_in_both rows others s raw) ∙ sym (newer_assoc (shown s raw row) (seen_at rows s raw) (seen_at others s raw))
+seen_in_both (row ∷ rows) others s raw = ap (newer (shown_at s raw row)) (seen_in_both rows others s raw) ∙ sym (newer_assoc (shown_at s raw row) (seen_at rows s raw) (seen_at others s raw))
 
 -- ---- what shows is one of the rows, of this raw key and not above s
 
-pub shown_is : (s : ℕ) (raw : Bytes) (row seen : Row) → shown s raw row ≡ Some seen → (row ≡ seen) × (seen.raw ≡ raw) × (seen.seq ≤ s)
+pub shown_is : (s : ℕ) (raw : Bytes) (row seen : Row) → shown_at s raw row ≡ Some seen → (row ≡ seen) × (seen.raw ≡ raw) × (seen.seq ≤ s)
 shown_is s raw row seen is = by_test (same raw row.raw && nat_le row.seq s) refl is
   where
     by_test : (b : Bool) → (same raw row.raw && nat_le row.seq s) ≡ b → cond b (Some row) None ≡ Some seen → (row ≡ seen) × (seen.raw ≡ raw) × (seen.seq ≤ s)
@@ -50,13 +50,13 @@ shown_is s raw row seen is = by_test (same raw row.raw && nat_le row.seq s) refl
         (it, (λ i. (sym it i).raw) ∙ raw_is, subst (λ (r : Row). r.seq ≤ s) it low)
     by_test false t e = absurd (cc)
 
-pub shown_where : (s : ℕ) (raw : Bytes) (row : Row) → row.raw ≡ raw → row.seq ≤ s → shown s raw row ≡ Some row
+pub shown_where : (s : ℕ) (raw : Bytes) (row : Row) → row.raw ≡ raw → row.seq ≤ s → shown_at s raw row ≡ Some row
 shown_where s raw row is low =
     let key : same raw row.raw ≡ true = ap (same raw) is ∙ same_itself raw in
     let test : nat_le row.seq s ≡ true = grind (arith, nat_tests) in
     ap (λ b. cond (b && nat_le row.seq s) (Some row) None) key ∙ ap (λ b. cond b (Some row) None) test
 
-pub shown_not : (s : ℕ) (raw : Bytes) (row : Row) → s < row.seq → shown s raw row ≡ None
+pub shown_not : (s : ℕ) (raw : Bytes) (row : Row) → s < row.seq → shown_at s raw row ≡ None
 shown_not s raw row high = by_key (same raw row.raw)
   where
     by_key : (b : Bool) → cond (b && nat_le row.seq s) (Some row) None ≡ None
@@ -129,7 +129,7 @@ pub seen_is : (rows : List Row) (s : ℕ) (raw : Bytes) (seen : Row) → seen_at
 unfolding seen_at
 seen_is [] s raw seen is = absurd (cc)
 seen_is (row ∷ rows) s raw seen is =
-    elim (newer_is (shown s raw row) (seen_at rows s raw) seen is) [
+    elim (newer_is (shown_at s raw row) (seen_at rows s raw) seen is) [
       | inl e ↦ let it = shown_is s raw row seen e in (subst (λ (r : Row). Contains (row ∷ rows) r) it.0 (there_first rows row), it.1, it.2)
       | inr e ↦ let it = seen_is rows s raw seen e in (there_behind rows seen row it.0, it.1, it.2)
     ]
@@ -142,13 +142,13 @@ seen_least (other ∷ rows) s raw row there is low =
     elim (there_cases rows row other there) [
       | inl e ↦
           let some = newer_some row (seen_at rows s raw) in
-          let shows : newer (shown s raw other) (seen_at rows s raw) ≡ newer (Some row) (seen_at rows s raw) = ap (λ (r : Row). newer (shown s raw r) (seen_at rows s raw)) e ∙ ap (λ o. newer o (seen_at rows s raw)) (shown_where s raw row is low) in
+          let shows : newer (shown_at s raw other) (seen_at rows s raw) ≡ newer (Some row) (seen_at rows s raw) = ap (λ (r : Row). newer (shown_at s raw r) (seen_at rows s raw)) e ∙ ap (λ o. newer o (seen_at rows s raw)) (shown_where s raw row is low) in
           (some.0, shows ∙ some.1, newer_front row (seen_at rows s raw) some.0 some.1)
       | inr e ↦
           let behind = seen_least rows s raw row e is low in
-          let some = newer_some_back (shown s raw other) behind.0 in
-          let shows = ap (newer (shown s raw other)) behind.1 in
-          let above = newer_back (shown s raw other) behind.0 some.0 some.1 in
+          let some = newer_some_back (shown_at s raw other) behind.0 in
+          let shows = ap (newer (shown_at s raw other)) behind.1 in
+          let above = newer_back (shown_at s raw other) behind.0 some.0 some.1 in
           (some.0, shows ∙ some.1, omega (arith, above, behind.2))
     ]
 
@@ -209,20 +209,20 @@ front_stays : (seq : ℕ) (raw : Bytes) (row : Row) (o : Option (Option Bytes)) 
 front_stays seq raw row None is = refl
 front_stays seq raw row (Some value) is = ap (λ (n : ℕ). cond (nat_lt n seq) (Some (as_row seq raw value)) (Some row)) is ∙ ap (λ b. cond b (Some (as_row seq raw value)) (Some row)) (same_seq seq)
 
-rows_show : (seq s : ℕ) (es : List BatchEntry) (raw : Bytes) → seq ≤ s → seen_at (map (row_of seq) es) s raw ≡ option_map (as_row seq raw) (find byte_cmp raw es)
+rows_show : (seq s : ℕ) (es : List BatchEntry) (raw : Bytes) → seq ≤ s → seen_at (map (entry_row seq) es) s raw ≡ option_map (as_row seq raw) (find byte_cmp raw es)
 unfolding seen_at
 rows_show seq s [] raw low = refl
 rows_show seq s (e ∷ es) raw low =
-    ap (newer (shown s raw (row_of seq e))) (rows_show seq s es raw low) ∙ by_key (same raw e.0) refl
+    ap (newer (shown_at s raw (entry_row seq e))) (rows_show seq s es raw low) ∙ by_key (same raw e.0) refl
   where
-    by_key : (b : Bool) → same raw e.0 ≡ b → newer (shown s raw (row_of seq e)) (option_map (as_row seq raw) (find byte_cmp raw es)) ≡ option_map (as_row seq raw) (find byte_cmp raw (e ∷ es))
+    by_key : (b : Bool) → same raw e.0 ≡ b → newer (shown_at s raw (entry_row seq e)) (option_map (as_row seq raw) (find byte_cmp raw es)) ≡ option_map (as_row seq raw) (find byte_cmp raw (e ∷ es))
     by_key true t =
-        ap (λ o. newer o (option_map (as_row seq raw) (find byte_cmp raw es))) (shown_where s raw (row_of seq e) (sym (same_is raw e.0 t)) low)
-        ∙ front_stays seq raw (row_of seq e) (find byte_cmp raw es) refl
+        ap (λ o. newer o (option_map (as_row seq raw) (find byte_cmp raw es))) (shown_where s raw (entry_row seq e) (sym (same_is raw e.0 t)) low)
+        ∙ front_stays seq raw (entry_row seq e) (find byte_cmp raw es) refl
         ∙ ap (λ (k : Bytes). Some (as_row seq k e.1)) (sym (same_is raw e.0 t))
         ∙ ap (λ b. option_map (as_row seq raw) (cond b (Some e.1) (find byte_cmp raw es))) (sym t)
     by_key false t =
-        ap (λ b. newer (cond (b && nat_le seq s) (Some (row_of seq e)) None) (option_map (as_row seq raw) (find byte_cmp raw es))) t
+        ap (λ b. newer (cond (b && nat_le seq s) (Some (entry_row seq e)) None) (option_map (as_row seq raw) (find byte_cmp raw es))) t
         ∙ ap (λ b. option_map (as_row seq raw) (cond b (Some e.1) (find byte_cmp raw es))) (sym t)
 
 -- at its sequence and above, a batch shows what it does at the raw key
@@ -230,10 +230,10 @@ pub batch_shows : (seq s : ℕ) (batch : Batch) (raw : Bytes) → seq ≤ s → 
 unfolding batch_rows get
 batch_shows seq s batch raw low = rows_show seq s batch.entries raw low
 
-none_show : (seq s : ℕ) (es : List BatchEntry) (raw : Bytes) → s < seq → seen_at (map (row_of seq) es) s raw ≡ None
+none_show : (seq s : ℕ) (es : List BatchEntry) (raw : Bytes) → s < seq → seen_at (map (entry_row seq) es) s raw ≡ None
 unfolding seen_at
 none_show seq s [] raw high = refl
-none_show seq s (e ∷ es) raw high = ap (λ o. newer o (seen_at (map (row_of seq) es) s raw)) (shown_not s raw (row_of seq e) high) ∙ none_show seq s es raw high
+none_show seq s (e ∷ es) raw high = ap (λ o. newer o (seen_at (map (entry_row seq) es) s raw)) (shown_not s raw (entry_row seq e) high) ∙ none_show seq s es raw high
 
 -- below its sequence it shows nothing
 pub batch_hides : (seq s : ℕ) (batch : Batch) (raw : Bytes) → s < seq → seen_at (batch_rows seq batch) s raw ≡ None
@@ -247,7 +247,7 @@ seen_on [] last s raw h low = refl
 seen_on (row ∷ rows) last s raw h low =
     let test = both_first (nat_le row.seq last) (are_upto last rows) h in
     let up : nat_le row.seq s ≡ nat_le row.seq last = grind (arith, nat_tests) in
-    let front : shown s raw row ≡ shown last raw row = ap (λ b. cond (same raw row.raw && b) (Some row) None) up in
+    let front : shown_at s raw row ≡ shown_at last raw row = ap (λ b. cond (same raw row.raw && b) (Some row) None) up in
     (λ i. newer (front i) (seen_on rows last s raw (both_second (nat_le row.seq last) (are_upto last rows) h) low i))
 
 -- a row above all others shows in front of them

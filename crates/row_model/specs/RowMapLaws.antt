@@ -6,7 +6,7 @@ use Rattle.kv_base.specs.Map.{Bytes, Map, same, same_is, same_map, get, insert, 
 use Rattle.batch_codec.specs.Batches.{Batch, after, over}
 use Rattle.batch_codec.specs.BatchLaws.{get-after}
 use Rattle.kv_base.specs.declared.row.Row.{Row}
-use Rattle.row_model.specs.Rows.{are_upto, shown, newer, seen_at, is_newer, newest, at, batch_rows, AreApart, HaveSameRows}
+use Rattle.row_model.specs.Rows.{are_upto, shown_at, newer, seen_at, is_newer, newest, at, batch_rows, AreApart, HaveSameRows}
 use Rattle.row_model.specs.RowOrder.{merged}
 use Rattle.row_model.specs.RowLaws.{seen_in_both, same_newest, as_row, batch_shows, batch_hides, seen_on, newest_front}
 use Rattle.row_model.specs.MergingLaws.{seen_merged}
@@ -21,7 +21,7 @@ noted row (Some other) = by_test (nat_lt row.seq other.seq) refl
     by_test false t = let test : nat_le other.seq row.seq ≡ true = grind (arith, nat_tests) in ap (λ b. cond b (Some row) (Some other)) test
 
 -- one row more
-get-noted : (row : Row) (s : ℕ) (m : Map Row) (raw : Bytes) → get (cond (nat_le row.seq s && is_newer row (get m row.raw)) (insert m row.raw row) m) raw ≡ newer (shown s raw row) (get m raw)
+get-noted : (row : Row) (s : ℕ) (m : Map Row) (raw : Bytes) → get (cond (nat_le row.seq s && is_newer row (get m row.raw)) (insert m row.raw row) m) raw ≡ newer (shown_at s raw row) (get m raw)
 get-noted row s m raw = by_key (same raw row.raw) refl
   where
     by_key : (k : Bool) → same raw row.raw ≡ k → get (cond (nat_le row.seq s && is_newer row (get m row.raw)) (insert m row.raw row) m) raw ≡ newer (cond (k && nat_le row.seq s) (Some row) None) (get m raw)
@@ -46,7 +46,7 @@ get-noted row s m raw = by_key (same raw row.raw) refl
 pub get-newest : (rows : List Row) (s : ℕ) (raw : Bytes) → get (newest rows s) raw ≡ seen_at rows s raw
 unfolding newest seen_at
 get-newest [] s raw = get-empty raw
-get-newest (row ∷ rows) s raw = get-noted row s (newest rows s) raw ∙ ap (newer (shown s raw row)) (get-newest rows s raw)
+get-newest (row ∷ rows) s raw = get-noted row s (newest rows s) raw ∙ ap (newer (shown_at s raw row)) (get-newest rows s raw)
 
 pub get_at : (rows : List Row) (s : ℕ) (raw : Bytes) → get (at rows s) raw ≡ option_and_then (λ row. row.value) (seen_at rows s raw)
 unfolding at

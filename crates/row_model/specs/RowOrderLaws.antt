@@ -13,7 +13,7 @@ use Rattle.kv_base.specs.InversionLaws.{both_first, both_second}
 use Rattle.kv_base.specs.Map.{byte_cmp}
 use Rattle.batch_codec.specs.Batches.{BatchEntry, Batch, is_row, are_rows}
 use Rattle.kv_base.specs.declared.row.Row.{Row}
-use Rattle.row_model.specs.Rows.{are_below, are_upto, are_row_texts, row_of, batch_rows, HaveSameRows}
+use Rattle.row_model.specs.Rows.{are_below, are_upto, are_row_texts, entry_row, batch_rows, HaveSameRows}
 use Rattle.row_model.specs.RowOrder.{row_cmp, leads, is_ordered, placed, merged}
 use Rattle.row_model.specs.RowLaws.{there_first, there_behind, there_cases}
 use Rattle.kv_base.specs.TestLaws.{less_is as less}
@@ -89,18 +89,18 @@ ordered_merged rows (row ∷ more) u h e =
 
 -- ---- the rows of a batch
 
-leads_entries : (seq : ℕ) (e : BatchEntry) (es : List BatchEntry) → T (below_all byte_cmp e.0 es) → leads (row_of seq e) (map (row_of seq) es) ≡ true
+leads_entries : (seq : ℕ) (e : BatchEntry) (es : List BatchEntry) → T (below_all byte_cmp e.0 es) → leads (entry_row seq e) (map (entry_row seq) es) ≡ true
 leads_entries seq e [] h = refl
 leads_entries seq e (f ∷ es) h =
-    both (is_lt (row_cmp (row_of seq e) (row_of seq f))) (leads (row_of seq e) (map (row_of seq) es))
+    both (is_lt (row_cmp (entry_row seq e) (entry_row seq f))) (leads (entry_row seq e) (map (entry_row seq) es))
     (ap (λ o. is_lt (ordering_then o (nat_cmp seq seq))) (less (byte_cmp e.0 f.0) (both_first (is_lt (byte_cmp e.0 f.0)) (below_all byte_cmp e.0 es) (true_is _ h))))
     (leads_entries seq e es (subst T (sym (both_second (is_lt (byte_cmp e.0 f.0)) (below_all byte_cmp e.0 es) (true_is _ h))) tt))
 
-ordered_entries : (seq : ℕ) (es : List BatchEntry) → T (is_sorted byte_cmp es) → is_ordered (map (row_of seq) es) ≡ true
+ordered_entries : (seq : ℕ) (es : List BatchEntry) → T (is_sorted byte_cmp es) → is_ordered (map (entry_row seq) es) ≡ true
 unfolding is_ordered
 ordered_entries seq [] h = refl
 ordered_entries seq (e ∷ es) h =
-    both (leads (row_of seq e) (map (row_of seq) es)) (is_ordered (map (row_of seq) es))
+    both (leads (entry_row seq e) (map (entry_row seq) es)) (is_ordered (map (entry_row seq) es))
     (leads_entries seq e es (subst T (sym (both_first (below_all byte_cmp e.0 es) (is_sorted byte_cmp es) (true_is _ h))) tt))
     (ordered_entries seq es (subst T (sym (both_second (below_all byte_cmp e.0 es) (is_sorted byte_cmp es) (true_is _ h))) tt))
 
@@ -124,9 +124,9 @@ pub untied_batch : (seq : ℕ) (batch : Batch) (rows : List Row) → are_below s
 unfolding batch_rows
 untied_batch seq batch rows h = each batch.entries
   where
-    each : (es : List BatchEntry) → are_untied (map (row_of seq) es) rows ≡ true
+    each : (es : List BatchEntry) → are_untied (map (entry_row seq) es) rows ≡ true
     each [] = refl
-    each (e ∷ es) = both (is_untied (row_of seq e) rows) (are_untied (map (row_of seq) es) rows) (newer_untied (row_of seq e) rows h) (each es)
+    each (e ∷ es) = both (is_untied (entry_row seq e) rows) (are_untied (map (entry_row seq) es) rows) (newer_untied (entry_row seq e) rows h) (each es)
 
 -- with the rows of a batch above all others, rows stay in order
 pub ordered_with_batch : (rows : List Row) (seq : ℕ) (batch : Batch) → IsTrue (are_below seq rows) → IsTrue (is_ordered rows) → IsTrue (is_ordered (merged rows (batch_rows seq batch)))
@@ -136,9 +136,9 @@ pub texts_of_batch : (seq : ℕ) (batch : Batch) → IsTrue (are_rows batch.entr
 unfolding batch_rows
 texts_of_batch seq batch h = each batch.entries h
   where
-    each : (es : List BatchEntry) → are_rows es ≡ true → are_row_texts (map (row_of seq) es) ≡ true
+    each : (es : List BatchEntry) → are_rows es ≡ true → are_row_texts (map (entry_row seq) es) ≡ true
     each [] h = refl
-    each (e ∷ es) h = both (is_row e) (are_row_texts (map (row_of seq) es)) (both_first (is_row e) (are_rows es) h) (each es (both_second (is_row e) (are_rows es) h))
+    each (e ∷ es) h = both (is_row e) (are_row_texts (map (entry_row seq) es)) (both_first (is_row e) (are_rows es) h) (each es (both_second (is_row e) (are_rows es) h))
 
 -- ---- the greatest sequence
 
@@ -153,14 +153,14 @@ upto_on last seq rows h low = all_more (λ r. nat_le r.seq last) (λ r. nat_le r
 pub upto_with_batch : (rows : List Row) (seq : ℕ) (batch : Batch) → IsTrue (are_below seq rows) → IsTrue (are_upto seq (merged rows (batch_rows seq batch)))
 unfolding batch_rows
 upto_with_batch rows seq batch low =
-    all_merged (λ r. nat_le r.seq seq) rows (map (row_of seq) batch.entries) (all_more (λ r. nat_lt r.seq seq) (λ r. nat_le r.seq seq) (λ r t. grind (arith, nat_tests)) rows low) (each batch.entries)
+    all_merged (λ r. nat_le r.seq seq) rows (map (entry_row seq) batch.entries) (all_more (λ r. nat_lt r.seq seq) (λ r. nat_le r.seq seq) (λ r t. grind (arith, nat_tests)) rows low) (each batch.entries)
   where
     reached : nat_le seq seq ≡ true
     reached = grind (arith, nat_tests)
 
-    each : (es : List BatchEntry) → are_upto seq (map (row_of seq) es) ≡ true
+    each : (es : List BatchEntry) → are_upto seq (map (entry_row seq) es) ≡ true
     each [] = refl
-    each (e ∷ es) = both (nat_le seq seq) (are_upto seq (map (row_of seq) es)) reached (each es)
+    each (e ∷ es) = both (nat_le seq seq) (are_upto seq (map (entry_row seq) es)) reached (each es)
 
 -- ---- the rows that are there
 

@@ -12,7 +12,7 @@ use Rattle.std.proofs.lemmas.Bool.Decides.{nat_tests}
 use Rattle.kv_base.specs.InversionLaws.{both_first, both_second}
 use Rattle.kv_base.specs.Map.{Bytes, byte_cmp, same, same_is, kept}
 use Rattle.kv_base.specs.declared.row.Row.{Row}
-use Rattle.row_model.specs.Rows.{shown, newer, seen_at}
+use Rattle.row_model.specs.Rows.{shown_at, newer, seen_at}
 use Rattle.row_model.specs.RowOrder.{row_cmp, leads, is_ordered, is_before, is_below}
 use Rattle.row_model.specs.RowLaws.{as_row, seen_is, shown_where, there_cases, there_never}
 use Rattle.row_model.specs.RowOrderLaws.{row_total}
@@ -69,7 +69,7 @@ same_order : (row : Row) (raw : Bytes) (s : ℕ) → row.raw ≡ raw → row_cmp
 same_order row raw s is = ap (λ o. ordering_then o (nat_cmp s row.seq)) (ap (λ (k : Bytes). byte_cmp k raw) is ∙ tied_itself nat_list_cmp_total raw)
 
 -- a row in front of the place does not show
-before_hides : (row : Row) (raw : Bytes) (s : ℕ) → is_before raw s row ≡ true → shown s raw row ≡ None
+before_hides : (row : Row) (raw : Bytes) (s : ℕ) → is_before raw s row ≡ true → shown_at s raw row ≡ None
 before_hides row raw s h = by_key (same raw row.raw) refl
   where
     by_key : (b : Bool) → same raw row.raw ≡ b → cond (b && nat_le row.seq s) (Some row) None ≡ None
@@ -81,7 +81,7 @@ before_hides row raw s h = by_key (same raw row.raw) refl
     by_key false t = refl
 
 -- the first row behind the place shows, where it has the raw key
-first_shows : (row : Row) (rows : List Row) (raw : Bytes) (s : ℕ) → leads row rows ≡ true → is_before raw s row ≡ false → row.raw ≡ raw → newer (shown s raw row) (seen_at rows s raw) ≡ Some row
+first_shows : (row : Row) (rows : List Row) (raw : Bytes) (s : ℕ) → leads row rows ≡ true → is_before raw s row ≡ false → row.raw ≡ raw → newer (shown_at s raw row) (seen_at rows s raw) ≡ Some row
 first_shows row rows raw s lead h is =
     let order : is_lt (nat_cmp s row.seq) ≡ false = ap is_lt (sym (same_order row raw s is)) ∙ h in
     let low : row.seq ≤ s = grind (arith, nat_tests) in
@@ -97,7 +97,7 @@ first_shows row rows raw s lead h is =
         ap (λ b. cond b (Some seen) (Some row)) test
 
 -- and where it has not, none does
-none_shows : (row : Row) (rows : List Row) (raw : Bytes) (s : ℕ) → leads row rows ≡ true → is_before raw s row ≡ false → same raw row.raw ≡ false → newer (shown s raw row) (seen_at rows s raw) ≡ None
+none_shows : (row : Row) (rows : List Row) (raw : Bytes) (s : ℕ) → leads row rows ≡ true → is_before raw s row ≡ false → same raw row.raw ≡ false → newer (shown_at s raw row) (seen_at rows s raw) ≡ None
 none_shows row rows raw s lead h other =
     ap (λ b. newer (cond (b && nat_le row.seq s) (Some row) None) (seen_at rows s raw)) other ∙ by_seen (seen_at rows s raw) refl
   where
@@ -129,7 +129,7 @@ seen_from (row ∷ rows) (suc place) raw s h split =
 seen_from (row ∷ rows) zero raw s h split =
     let behind = split.1 0 row (omega arith) (omega arith) in
     let lead = both_first (leads row rows) (is_ordered rows) h in
-    elim (same raw row.raw) as (λ b. same raw row.raw ≡ b → newer (shown s raw row) (seen_at rows s raw) ≡ cond b (Some row) None) [
+    elim (same raw row.raw) as (λ b. same raw row.raw ≡ b → newer (shown_at s raw row) (seen_at rows s raw) ≡ cond b (Some row) None) [
       | true ↦ λ t. first_shows row rows raw s lead behind (sym (same_is raw row.raw t))
       | false ↦ λ t. none_shows row rows raw s lead behind t
     ] refl

@@ -23,8 +23,8 @@ are_below seq = list_all (λ row. nat_lt row.seq seq)
 -- ---- what shows
 
 -- the row, where it is one of this raw key and not above s
-abbrev pub shown : ℕ → Bytes → Row → Option Row
-shown s raw row = if same raw row.raw && nat_le row.seq s then Some row else None
+abbrev pub shown_at : ℕ → Bytes → Row → Option Row
+shown_at s raw row = if same raw row.raw && nat_le row.seq s then Some row else None
 
 -- the row of greater sequence, of two that may be there; the first where they tie
 abbrev pub newer : Option Row → Option Row → Option Row
@@ -35,7 +35,7 @@ newer (Some row) (Some other) = if nat_lt row.seq other.seq then Some other else
 -- the row of a raw key with the greatest sequence not above s
 unfoldable pub seen_at : List Row → ℕ → Bytes → Option Row
 seen_at [] s raw = None
-seen_at (row ∷ rows) s raw = newer (shown s raw row) (seen_at rows s raw)
+seen_at (row ∷ rows) s raw = newer (shown_at s raw row) (seen_at rows s raw)
 
 -- the rule for it: it is one of the rows, and none of its raw key that is not above s has a greater sequence; it is
 -- absent where each row of the raw key is above s
@@ -62,12 +62,12 @@ at rows s = choose (λ row. row.value) (newest rows s)
 
 -- ---- the rows of a batch
 
-abbrev pub row_of : ℕ → BatchEntry → Row
-row_of seq entry = record { raw = entry.0; seq = seq; value = entry.1 }
+abbrev pub entry_row : ℕ → BatchEntry → Row
+entry_row seq entry = record { raw = entry.0; seq = seq; value = entry.1 }
 
 -- what a batch writes under a sequence
 unfoldable pub batch_rows : ℕ → Batch → List Row
-batch_rows seq batch = map (row_of seq) batch.entries
+batch_rows seq batch = map (entry_row seq) batch.entries
 
 -- ---- rows that answer alike
 

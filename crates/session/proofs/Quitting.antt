@@ -16,7 +16,7 @@ use Rattle.cmd_words.specs.declared.parsed.Parsed.{Parsed}
 use Rattle.cmd_words.specs.declared.parsed.Parsed.TheVariants as parsed
 use Rattle.session.specs.declared.answer.Answer.{Answer}
 use Rattle.session.specs.declared.answer.Answer.TheVariants as answer
-use Rattle.session.specs.Answer.{answered, quits}
+use Rattle.session.specs.Answer.{desk_answer, quits}
 use Rattle.session.specs.Talk.{ToDesk, Own, Turn, TurnBy, asked}
 use Rattle.session.specs.Quits.{is_quit, is_quit_by, NoneQuits, LastQuits}
 
@@ -64,7 +64,7 @@ few_quit_one words = by_test (is_quit words) refl
 
 module _ {D : Type 0} (told : D → DeskState) where
   -- a desk does not answer as QUIT is
-  answered_on : (result : Result Reply DeskFault) → quits (answered result) ≡ false
+  answered_on : (result : Result Reply DeskFault) → quits (desk_answer result) ≡ false
   answered_on (Ok reply) = refl
   answered_on (Err fault) = refl
 

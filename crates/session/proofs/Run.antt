@@ -11,7 +11,7 @@ use Rattle.kv_outside.specs.Writing.{AppendsFront}
 use Rattle.kv_outside.specs.WritingLaws.{front_after}
 use Rattle.redis_model.specs.DeskState.{DeskState}
 use Rattle.resp_wire.specs.declared.fault.WireFault.TheVariants.{Cut}
-use Rattle.resp_wire.specs.Fault.{fault_of, fault_line as wire_line}
+use Rattle.resp_wire.specs.Fault.{wire_fault, fault_line as wire_line}
 use Rattle.resp_wire.specs.Grammar.{End, Whole, Open, Fault, requests, requests_within, open_end}
 use Rattle.resp_wire.specs.Reading.{IsUnfinished}
 use Rattle.resp_wire.specs.Holding.{HoldsRequests}
@@ -20,7 +20,7 @@ use Rattle.session.specs.declared.serve.Stopped.{Stopped}
 use Rattle.session.specs.declared.serve.Stopped.TheVariants as stopped
 use Rattle.session.specs.declared.session.Outcome.{Outcome}
 use Rattle.session.specs.declared.session.Outcome.TheVariants as outcome
-use Rattle.session.specs.Talk.{text}
+use Rattle.session.specs.Talk.{answers_text}
 use Rattle.session.specs.Serving.{Pulls, Passes, Answered, Broken, Serves, Serving, Breaking, TellsAs, StopsAs, FinishesAs, is_write_fault}
 use Rattle.session.specs.Session.{Session, AreFirst, AreAll, IsQuit, IsThrough, IsProtocol, EndsAs, HasNoFault, IsCaused, Writing, IsBroken, end_line}
 use Rattle.session.proofs.Waiting.{passed_all}
@@ -209,12 +209,12 @@ module _ {D : Type 0} (told : D → DeskState) where
     are_all = record { all = ap (λ (x : List (List Bytes) × End). x.0) at_end; none = p.serving.none }
 
     said : Bytes
-    said = text p.serving.answered.answers
+    said = answers_text p.serving.answered.answers
 
-    all_said : Appends h i (text p.serving.answered.answers)
-    all_said = all_sent h i (text p.serving.answered.answers) p.serving.answered.wrote
+    all_said : Appends h i (answers_text p.serving.answered.answers)
+    all_said = all_sent h i (answers_text p.serving.answered.answers) p.serving.answered.wrote
 
-    parts : (o : Outcome) (line : Bytes) (j : Known) (b b' : Bool) → EndsAs o p.taken p.serving.served line l2 b b' → Writing o h j (text p.serving.answered.answers ++ line) → Session told o d e l l2 h j b b'
+    parts : (o : Outcome) (line : Bytes) (j : Known) (b b' : Bool) → EndsAs o p.taken p.serving.served line l2 b b' → Writing o h j (answers_text p.serving.answered.answers ++ line) → Session told o d e l l2 h j b b'
     unfolding Session
     parts o line j b b' ends wrote = record { taken = p.taken; limit = omega (arith, p.count, p.within); served = p.serving.served; answers = p.serving.answered.answers; line = line; took = took_all; ends = ends; talk = p.serving.answered.talk; wrote = wrote }
 
@@ -288,10 +288,10 @@ module _ {D : Type 0} (told : D → DeskState) where
   run_stops d e f l l1 l2 h i j m w rest fed rest' piece n k g g' g2 b b' (stopped.Wire kind left) o p few took len is q s =
       let all = serving_on d e f h i j w p.taken piece rest fed q.0 p.serving p.none is q.1 in
       let at_end = holds_faulty (p.taken ++ piece) all.served q.0 kind left q.2 all.holds in
-      let line : Bytes = wire_line (fault_of kind) (n + k - left) in
+      let line : Bytes = wire_line (wire_fault kind) (n + k - left) in
       let at : Fault kind left ≡ (requests (p.taken ++ piece)).1 = ap (λ (v : List (List Bytes) × End). v.1) (sym at_end) in
       let all_of : n + k ≡ length (p.taken ++ piece) = omega (arith, length-append p.taken piece, p.count, len) in
-      let tells : line ≡ end_line (length (p.taken ++ piece)) (requests (p.taken ++ piece)).1 = ap (λ (v : ℕ). wire_line (fault_of kind) (v - left)) all_of ∙ ap (end_line (length (p.taken ++ piece))) at in
+      let tells : line ≡ end_line (length (p.taken ++ piece)) (requests (p.taken ++ piece)).1 = ap (λ (v : ℕ). wire_line (wire_fault kind) (v - left)) all_of ∙ ap (end_line (length (p.taken ++ piece))) at in
       let broken : IsBroken (requests (p.taken ++ piece)).1 b' l2 = subst (λ (v : End). IsBroken v b' l2) at tt in
       record {
         taken = p.taken ++ piece;

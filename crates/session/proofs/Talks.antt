@@ -5,13 +5,13 @@ use Rattle.kv_base.specs.Map.{Bytes}
 use Rattle.redis_model.specs.DeskState.{DeskState}
 use Rattle.session.specs.declared.answer.Answer.{Answer}
 use Rattle.session.specs.Answer.{say}
-use Rattle.session.specs.Talk.{Turn, Talks, text}
+use Rattle.session.specs.Talk.{Turn, Talks, answers_text}
 
-pub text-append : (xs ys : List Answer) → text (xs ++ ys) ≡ text xs ++ text ys
+pub text-append : (xs ys : List Answer) → answers_text (xs ++ ys) ≡ answers_text xs ++ answers_text ys
 text-append [] ys = refl
-text-append (x ∷ xs) ys = ap (λ (l : List ℕ). say x ++ l) (text-append xs ys) ∙ sym (append_assoc (say x) (text xs) (text ys))
+text-append (x ∷ xs) ys = ap (λ (l : List ℕ). say x ++ l) (text-append xs ys) ∙ sym (append_assoc (say x) (answers_text xs) (answers_text ys))
 
-pub text_one : (answer : Answer) → text (answer ∷ []) ≡ say answer
+pub text_one : (answer : Answer) → answers_text (answer ∷ []) ≡ say answer
 text_one answer = append-nil (say answer)
 
 module _ {D : Type 0} (told : D → DeskState) where

@@ -10,7 +10,7 @@ use Rattle.redis_model.specs.declared.reply.Reply.TheVariants as reply
 use Rattle.redis_model.specs.Render.{render, line_end}
 use Rattle.session.specs.declared.answer.Answer.{Answer}
 use Rattle.session.specs.declared.answer.Answer.TheVariants as answer
-use Rattle.cmd_words.specs.Texts.{fault_text}
+use Rattle.cmd_words.specs.Texts.{command_fault_text}
 use Rattle.cmd_words.specs.declared.fault.CommandFault.{CommandFault}
 use Rattle.cmd_words.specs.declared.fault.CommandFault.TheVariants.{Unknown}
 
@@ -20,7 +20,7 @@ error_line text = codes "-" ++ text ++ line_end
 
 -- words that are no command
 abbrev pub refusal_line : CommandFault → Bytes
-refusal_line fault = error_line (fault_text fault)
+refusal_line fault = error_line (command_fault_text fault)
 
 -- ---- a desk without a reply
 
@@ -34,13 +34,13 @@ file_text (file.Table id) = codes "t-" ++ decimal id.run ++ codes "-" ++ decimal
 abbrev pub damage_line : FileName → ℕ → Bytes
 damage_line name place = error_line (codes "DAMAGED " ++ file_text name ++ codes " " ++ decimal place)
 
-abbrev pub fault_line : DeskFault → Bytes
-fault_line desk.IoError = error_line (codes "IOERR a file call failed")
-fault_line desk.NoMem = error_line (codes "NOMEM no memory")
-fault_line (desk.Damaged name place) = damage_line name place
-fault_line desk.SeqFull = error_line (codes "ERR sequence exhausted")
-fault_line desk.TooBig = error_line (codes "ERR batch too large")
-fault_line desk.Busy = error_line (codes "BUSY another job is open")
+abbrev pub desk_fault_line : DeskFault → Bytes
+desk_fault_line desk.IoError = error_line (codes "IOERR a file call failed")
+desk_fault_line desk.NoMem = error_line (codes "NOMEM no memory")
+desk_fault_line (desk.Damaged name place) = damage_line name place
+desk_fault_line desk.SeqFull = error_line (codes "ERR sequence exhausted")
+desk_fault_line desk.TooBig = error_line (codes "ERR batch too large")
+desk_fault_line desk.Busy = error_line (codes "BUSY another job is open")
 
 -- ---- an answer
 
@@ -49,13 +49,13 @@ unfoldable pub say : Answer → Bytes
 say (answer.Reply reply) = render reply
 say (answer.Refused fault) = refusal_line fault
 say answer.Unserved = refusal_line Unknown
-say (answer.Fault fault) = fault_line fault
+say (answer.Fault fault) = desk_fault_line fault
 say answer.Quit = render reply.Ok
 
 -- what a desk answered
-abbrev pub answered : Result Reply DeskFault → Answer
-answered (Ok reply) = answer.Reply reply
-answered (Err fault) = answer.Fault fault
+abbrev pub desk_answer : Result Reply DeskFault → Answer
+desk_answer (Ok reply) = answer.Reply reply
+desk_answer (Err fault) = answer.Fault fault
 
 -- the answer to QUIT
 abbrev pub quits : Answer → Bool

@@ -4,7 +4,7 @@ use Rattle.std.specs.Io.KnownBytes.{Consumes}
 use Rattle.std.proofs.Common.{sym, ap, subst, ◌∙◌, append_assoc, ⊎_elim, inl, inr, arith}
 use Rattle.std.proofs.lemmas.List.{append-nil, length-append}
 use Rattle.kv_base.specs.Map.{Bytes}
-use Rattle.resp_wire.specs.Fault.{fault_of, fault_line as wire_line}
+use Rattle.resp_wire.specs.Fault.{wire_fault, fault_line as wire_line}
 use Rattle.resp_wire.specs.Grammar.{requests, End, Whole, Open, Fault}
 use Rattle.resp_wire.specs.HoldingLaws.{requests_go_on, faults_stay}
 use Rattle.session.specs.declared.session.Outcome.{Outcome}
@@ -74,7 +74,7 @@ module _ (taken left : Bytes) (served : List (List Bytes)) where
             all = sym (ap (λ (x : List (List Bytes) × End). x.0) stays ∙ p.are.all);
             none = p.are.none;
             broken = λ whole. (let both : Fault kind (unread + length left) ≡ Whole = sym end ∙ whole in cc);
-            tells = p.tells ∙ ap (end_line (length taken)) at ∙ ap (wire_line (fault_of kind)) place ∙ ap (end_line (length (taken ++ left))) (sym end);
+            tells = p.tells ∙ ap (end_line (length taken)) at ∙ ap (wire_line (wire_fault kind)) place ∙ ap (end_line (length (taken ++ left))) (sym end);
           }
 
   -- by the outcome

@@ -7,7 +7,7 @@ use Rattle.kv_outside.specs.Writing.{AppendsFront}
 use Rattle.redis_model.specs.DeskState.{DeskState}
 use Rattle.cmd_words.specs.Words.{AreRequestWords}
 use Rattle.resp_wire.specs.declared.fault.WireFault.TheVariants.{Cut}
-use Rattle.resp_wire.specs.Fault.{fault_of, fault_line as wire_line}
+use Rattle.resp_wire.specs.Fault.{wire_fault, fault_line as wire_line}
 use Rattle.resp_wire.specs.Grammar.{End, Whole, Open, Fault}
 use Rattle.resp_wire.specs.Reading.{ReadsRequest, IsUnfinished, IsFaulty}
 use Rattle.resp_wire.specs.Holding.{HoldsRequests}
@@ -17,7 +17,7 @@ use Rattle.session.specs.declared.serve.Stopped.TheVariants as stopped
 use Rattle.session.specs.declared.session.Outcome.{Outcome}
 use Rattle.session.specs.declared.session.Outcome.TheVariants as outcome
 use Rattle.session.specs.Quits.{is_quit, NoneQuits, LastQuits}
-use Rattle.session.specs.Talk.{Talks, text}
+use Rattle.session.specs.Talk.{Talks, answers_text}
 
 -- ---- a text on its way to a sink
 
@@ -40,13 +40,13 @@ pub record Sends {T E : Type 0} (held held' : Option (List ℕ)) (waits waits' :
 pub record Answered {D : Type 0} (told : D → DeskState) (old new : D) (held held' : Option (List ℕ)) (waits waits' : Bytes) (served : List (List Bytes)) : Type 0 where
   pub answers : List Answer
   pub talk : Talks told old new served answers
-  pub wrote : Passes held held' waits waits' (text answers)
+  pub wrote : Passes held held' waits waits' (answers_text answers)
 
 -- The sink failed within the answers to these requests, and has a front of what waited and of them.
 pub record Broken {D : Type 0} (told : D → DeskState) (old new : D) (held held' : Option (List ℕ)) (waits : Bytes) (served : List (List Bytes)) : Type 0 where
   pub answers : List Answer
   pub talk : Talks told old new served answers
-  pub wrote : AppendsFront held held' (waits ++ text answers)
+  pub wrote : AppendsFront held held' (waits ++ answers_text answers)
 
 -- One request was answered, and its answer written. Behind that of a QUIT the session is over.
 abbrev pub AnswersAs : {D : Type 0} → (D → DeskState) → D → D → Option (List ℕ) → Option (List ℕ) → Bytes → Bytes → ℕ → ℕ → List Bytes → Result (Unit {0}) Stopped → Type 0
@@ -128,7 +128,7 @@ TellsAs held held' faults faults' line _ = ⊥
 abbrev pub StopsAs : Option (List ℕ) → Option (List ℕ) → ℕ → ℕ → ℕ → Stopped → Outcome → Type 0
 StopsAs held held' faults faults' total stopped.NoMem o = (o ≡ outcome.NoMem) × (held' ≡ held)
 StopsAs held held' faults faults' total stopped.WriteFault o = (o ≡ outcome.WriteFault) × (held' ≡ held) × (faults' ≡ faults)
-StopsAs held held' faults faults' total (stopped.Wire kind left) o = TellsAs held held' faults faults' (wire_line (fault_of kind) (total - left)) o
+StopsAs held held' faults faults' total (stopped.Wire kind left) o = TellsAs held held' faults faults' (wire_line (wire_fault kind) (total - left)) o
 StopsAs held held' faults faults' total stopped.Quit o = (o ≡ outcome.Closed) × (held' ≡ held)
 
 -- How it ends where the input has ended as this says.

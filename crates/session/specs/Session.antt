@@ -6,13 +6,13 @@ use Rattle.kv_outside.specs.Causes.{Rose}
 use Rattle.kv_outside.specs.Writing.{AppendsFront}
 use Rattle.redis_model.specs.DeskState.{DeskState}
 use Rattle.resp_wire.specs.declared.fault.WireFault.TheVariants.{Cut}
-use Rattle.resp_wire.specs.Fault.{fault_of, fault_line as wire_line}
+use Rattle.resp_wire.specs.Fault.{wire_fault, fault_line as wire_line}
 use Rattle.resp_wire.specs.Grammar.{requests, End, Whole, Open, Fault}
 use Rattle.session.specs.declared.answer.Answer.{Answer}
 use Rattle.session.specs.declared.session.Outcome.{Outcome}
 use Rattle.session.specs.declared.session.Outcome.TheVariants as outcome
 use Rattle.session.specs.Quits.{NoneQuits, LastQuits}
-use Rattle.session.specs.Talk.{Talks, text}
+use Rattle.session.specs.Talk.{Talks, answers_text}
 
 -- the requests that were answered are the first of these
 abbrev pub AreFirst : List (List Bytes) → List (List Bytes) → Type 0
@@ -28,7 +28,7 @@ IsBroken (Fault kind unread) ended left = Unit {0}
 abbrev pub end_line : ℕ → End → Bytes
 end_line total Whole = []
 end_line total (Open unread) = wire_line Cut (total - unread)
-end_line total (Fault kind unread) = wire_line (fault_of kind) (total - unread)
+end_line total (Fault kind unread) = wire_line (wire_fault kind) (total - unread)
 
 -- no fault of the wire stands in a text that ends so
 abbrev pub HasNoFault : End → Type 0
@@ -97,7 +97,7 @@ pub record SessionParts {D : Type 0} (told : D → DeskState) (o : Outcome) (old
   pub limit : length taken ≤ 2 ^ 40
   pub ends : EndsAs o taken served line left' ended ended'
   pub talk : Talks told old new served answers
-  pub wrote : Writing o held held' (text answers ++ line)
+  pub wrote : Writing o held held' (answers_text answers ++ line)
 
 unfoldable pub Session : {D : Type 0} → (D → DeskState) → Outcome → D → D → Option (List ℕ) → Option (List ℕ) → Option (List ℕ) → Option (List ℕ) → Bool → Bool → Type 0
 Session told o old new left left' held held' ended ended' = SessionParts told o old new left left' held held' ended ended'

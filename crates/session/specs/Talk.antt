@@ -15,7 +15,7 @@ use Rattle.cmd_words.specs.declared.parsed.Parsed.{Parsed}
 use Rattle.cmd_words.specs.declared.parsed.Parsed.TheVariants as parsed
 use Rattle.session.specs.declared.answer.Answer.{Answer}
 use Rattle.session.specs.declared.answer.Answer.TheVariants as answer
-use Rattle.session.specs.Answer.{say, answered}
+use Rattle.session.specs.Answer.{say, desk_answer}
 
 -- What is asked for goes to the desk, or has an answer of the session's own.
 pub data Asked : Type 0 where
@@ -41,7 +41,7 @@ pub record Asks {D : Type 0} (told : D → DeskState) (old new : D) (ask : Ask) 
   pub reading : TakesOnlyReading (told old) (told mid) now
   pub result : Result Reply DeskFault
   pub call : TakesCall (told mid) (told new) now (due now ask) result
-  pub says : answer ≡ answered result
+  pub says : answer ≡ desk_answer result
 
 module _ {D : Type 0} (told : D → DeskState) where
   -- the desk is left alone by what it is not asked for
@@ -64,5 +64,5 @@ module _ {D : Type 0} (told : D → DeskState) where
   Talks old new (words ∷ others) (answer ∷ answers) = (mid : D) × Turn told old mid words answer × Talks mid new others answers
 
 -- what is written for answers
-abbrev pub text : List Answer → Bytes
-text answers = flat_map say answers
+abbrev pub answers_text : List Answer → Bytes
+answers_text answers = flat_map say answers

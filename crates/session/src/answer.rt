@@ -1,6 +1,6 @@
 ghost use Rattle.std.specs.Prelude.{◌≡◌, ◌++◌, codes, decimal};
 ghost use Rattle.kv_outside.specs.Writing.{Writes};
-ghost use Rattle.session.specs.Answer.{say, quits, refusal_line, error_line, fault_line, damage_line};
+ghost use Rattle.session.specs.Answer.{say, quits, refusal_line, error_line, desk_fault_line, damage_line};
 
 use cmd_words::CommandFault;
 use itoa::Buffer;
@@ -95,7 +95,7 @@ fn write_damaged_table<K: Sink>(id: TableId, place: u64, sink: &mut K) -> Result
 }
 
 fn write_fault<K: Sink>(fault: DeskFault, sink: &mut K) -> Result<(), Failed>
-    ensures { Writes (K.held sink.old) (K.held sink.new) (K.faults sink.old) (K.faults sink.new) (fault_line fault) result }
+    ensures { Writes (K.held sink.old) (K.held sink.new) (K.faults sink.old) (K.faults sink.new) (desk_fault_line fault) result }
 {
     match fault {
         DeskFault::IoError => write_pieces(&[b"-IOERR a file call failed\r\n"], sink),

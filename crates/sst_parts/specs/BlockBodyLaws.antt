@@ -16,7 +16,7 @@ use Rattle.row_model.specs.RowOrderLaws.{row_total}
 use Rattle.kv_base.specs.TestLaws.{less_is}
 use Rattle.sst_parts.specs.RowTexts.{row_parts, row_text, rows_text}
 use Rattle.sst_parts.specs.RowTextLaws.{row_text_is_read, only_row_text_is_read, length-row}
-use Rattle.sst_parts.specs.Blocks.{is_row_behind, is_next_row, has_room, read_next, then_rows, read_rows, read_body}
+use Rattle.sst_parts.specs.Blocks.{is_row_behind, is_next_row, has_room, read_next, then_rows, read_rows, read_block_body}
 use Rattle.sst_parts.specs.BlockLaws.{next_is_row, behind_next, rows_left, left_next}
 use Rattle.sst_parts.specs.Seeking.{AreReadable}
 use Rattle.sst_parts.specs.BlockBodies.{are_u64, is_chain, have_room, AreRowsIn, last_row}
@@ -83,8 +83,8 @@ rows_are_read whole last (row ∷ rows) readable chain room =
     left_next whole last (row_text row ++ rest) (row, rest) next (not_empty row rest)
     ∙ ap (then_rows row) (rows_are_read whole (Some row) rows readable.2 (both_second (is_next_row last row) (is_chain (Some row) rows) chain) (both_second (has_room whole (row_text row ++ rest)) (have_room whole rows) room))
 
-pub block_body_is_read : (last : Option Row) (rows : List Row) → AreReadable rows → is_chain last rows ≡ true → have_room (length (rows_text rows)) rows ≡ true → read_body last (rows_text rows) ≡ Some rows
-unfolding read_body
+pub block_body_is_read : (last : Option Row) (rows : List Row) → AreReadable rows → is_chain last rows ≡ true → have_room (length (rows_text rows)) rows ≡ true → read_block_body last (rows_text rows) ≡ Some rows
+unfolding read_block_body
 block_body_is_read last rows readable chain room = rows_are_read (length (rows_text rows)) last rows readable chain room
 
 -- ---- nothing else is read
@@ -109,8 +109,8 @@ only_rows whole (suc most) last (b ∷ rest) rows h =
       room = both (has_room whole (rows_text (row ∷ more.0))) (have_room whole more.0) (subst (λ (l : Bytes). has_room whole l ≡ true) spelled it.2) others.room;
     })
 
-pub only_block_body_is_read : (last : Option Row) (body : Bytes) (rows : List Row) → read_body last body ≡ Some rows → AreRowsIn (length body) last body rows
-unfolding read_body
+pub only_block_body_is_read : (last : Option Row) (body : Bytes) (rows : List Row) → read_block_body last body ≡ Some rows → AreRowsIn (length body) last body rows
+unfolding read_block_body
 only_block_body_is_read last body rows h = only_rows (length body) (length body) last body rows h
 
 -- ---- a chain and rows in order

@@ -7,7 +7,7 @@ use Rattle.kv_base.specs.InversionLaws.{same_some, and_then_is, if_is, both_firs
 use Rattle.kv_base.specs.declared.row.Row.{Row}
 use Rattle.sst_parts.specs.RowTexts.{read_row}
 use Rattle.sst_parts.specs.RowTextLaws.{row_shortens}
-use Rattle.sst_parts.specs.Blocks.{is_next_row, has_room, read_next, then_rows, read_rows, read_body}
+use Rattle.sst_parts.specs.Blocks.{is_next_row, has_room, read_next, then_rows, read_rows, read_block_body}
 
 -- a row that may come next is a row
 pub next_is_row : (whole : ℕ) (last : Option Row) (rest : Bytes) (front : Row × Bytes) → read_next whole last rest ≡ Some front
@@ -63,8 +63,8 @@ onto_none (Some rows) = refl
 abbrev pub rows_left : ℕ → Option Row → Bytes → Option (List Row)
 rows_left whole last rest = read_rows whole (length rest) last rest
 
-pub body_begins : (last : Option Row) (body : Bytes) → rows_onto [] (rows_left (length body) last body) ≡ read_body last body
-unfolding read_body
+pub body_begins : (last : Option Row) (body : Bytes) → rows_onto [] (rows_left (length body) last body) ≡ read_block_body last body
+unfolding read_block_body
 body_begins last body = onto_none (rows_left (length body) last body)
 
 pub one_row_more : (whole : ℕ) (done : List Row) (last : Option Row) (rest : Bytes) (front : Row × Bytes) → read_next whole last rest ≡ Some front → (length rest == 0) ≡ false

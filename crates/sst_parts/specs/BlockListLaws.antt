@@ -5,7 +5,7 @@ use Rattle.std.proofs.lemmas.Bool.Decides.{nat_tests}
 use Rattle.kv_base.specs.Map.{Bytes}
 use Rattle.kv_base.specs.declared.row.Row.{Row}
 use Rattle.sst_parts.specs.RowTexts.{row_text, rows_text}
-use Rattle.sst_parts.specs.Blocks.{block_size, is_full, has_room, Filled, with_row, nothing_filled, filled, close_last, blocks}
+use Rattle.sst_parts.specs.Blocks.{block_size, is_full, has_room, Filled, with_block_row, nothing_filled, filled, close_last, blocks}
 use Rattle.sst_parts.specs.BlockBodies.{have_room}
 use Rattle.sst_parts.specs.BlockLists.{joined_blocks, IsBlock, IsFullBlock, AreFull, AreWaiting, AreIn, AreBlocks}
 
@@ -80,26 +80,26 @@ in_with f rows now row full low whole is false t = record {
     open_low : (rs : List Row) → is_full rs ≡ false → length (rows_text rs) < block_size
     open_low rs h = grind (arith, nat_tests)
 
-pub in_with_row : (f : Filled) (rows : List Row) (row : Row) → AreIn f rows → AreIn (with_row f row) (rows ++ row ∷ [])
-unfolding with_row
+pub in_with_row : (f : Filled) (rows : List Row) (row : Row) → AreIn f rows → AreIn (with_block_row f row) (rows ++ row ∷ [])
+unfolding with_block_row
 in_with_row f rows row h = in_with f rows (f.waiting ++ row ∷ []) row h.full h.waiting.low h.whole refl (is_full (f.waiting ++ row ∷ [])) refl
 
-in_all : (f : Filled) (done rows : List Row) → AreIn f done → AreIn (fold with_row f rows) (done ++ rows)
+in_all : (f : Filled) (done rows : List Row) → AreIn f done → AreIn (fold with_block_row f rows) (done ++ rows)
 in_all f done [] h = subst (AreIn f) (sym (append-nil done)) h
-in_all f done (row ∷ rows) h = subst (AreIn (fold with_row (with_row f row) rows)) (append_assoc done (row ∷ []) rows) (in_all (with_row f row) (done ++ row ∷ []) rows (in_with_row f done row h))
+in_all f done (row ∷ rows) h = subst (AreIn (fold with_block_row (with_block_row f row) rows)) (append_assoc done (row ∷ []) rows) (in_all (with_block_row f row) (done ++ row ∷ []) rows (in_with_row f done row h))
 
 pub in_filled : (rows : List Row) → AreIn (filled rows) rows
 unfolding filled
 in_filled rows = in_all nothing_filled [] rows none_in
 
 -- one row more
-pub filled-push : (rows : List Row) (row : Row) → filled (rows ++ row ∷ []) ≡ with_row (filled rows) row
+pub filled-push : (rows : List Row) (row : Row) → filled (rows ++ row ∷ []) ≡ with_block_row (filled rows) row
 unfolding filled
 filled-push rows row = pushed nothing_filled rows
   where
-    pushed : (f : Filled) (rs : List Row) → fold with_row f (rs ++ row ∷ []) ≡ with_row (fold with_row f rs) row
+    pushed : (f : Filled) (rs : List Row) → fold with_block_row f (rs ++ row ∷ []) ≡ with_block_row (fold with_block_row f rs) row
     pushed f [] = refl
-    pushed f (r ∷ rs) = pushed (with_row f r) rs
+    pushed f (r ∷ rs) = pushed (with_block_row f r) rs
 
 -- ---- the blocks
 

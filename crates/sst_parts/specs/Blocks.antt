@@ -26,14 +26,14 @@ abbrev pub close_full : List (List Row) → List Row → Filled
 close_full closed rows = if is_full rows then record { closed = closed ++ rows ∷ []; waiting = [] } else record { closed = closed; waiting = rows }
 
 -- a row comes into the open block
-unfoldable pub with_row : Filled → Row → Filled
-with_row so_far row = close_full so_far.closed (so_far.waiting ++ row ∷ [])
+unfoldable pub with_block_row : Filled → Row → Filled
+with_block_row so_far row = close_full so_far.closed (so_far.waiting ++ row ∷ [])
 
 abbrev pub nothing_filled : Filled
 nothing_filled = record { closed = []; waiting = [] }
 
 unfoldable pub filled : List Row → Filled
-filled rows = fold with_row nothing_filled rows
+filled rows = fold with_block_row nothing_filled rows
 
 -- the last block is closed at the last row
 abbrev pub close_last : List (List Row) → List Row → List (List Row)
@@ -81,5 +81,5 @@ read_rows whole (suc most) last (b ∷ rest) =
     option_and_then (λ front. then_rows front.0 (read_rows whole most (Some front.0) front.1)) (read_next whole last (b ∷ rest))
 
 -- the rows of a body, the first of them behind this one
-unfoldable pub read_body : Option Row → Bytes → Option (List Row)
-read_body last body = read_rows (length body) (length body) last body
+unfoldable pub read_block_body : Option Row → Bytes → Option (List Row)
+read_block_body last body = read_rows (length body) (length body) last body

@@ -52,5 +52,5 @@ abbrev pub spots_behind : ℕ → ℕ → ℕ × Bytes → Option (List Spot)
 spots_behind place end (n, bytes) = if n == 0 then None else read_spots n place end bytes
 
 -- the spots of an index, of at least one block, from this place up to this end
-unfoldable pub read_index : ℕ → ℕ → Bytes → Option (List Spot)
-read_index place end bytes = option_and_then (spots_behind place end) (read_u32 bytes)
+unfoldable pub read_block_index : ℕ → ℕ → Bytes → Option (List Spot)
+read_block_index place end bytes = option_and_then (spots_behind place end) (read_u32 bytes)

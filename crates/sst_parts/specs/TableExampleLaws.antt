@@ -5,10 +5,10 @@ use Rattle.kv_base.specs.Fields.{u32, u64, text}
 use Rattle.kv_base.specs.Hash.{fnv1a}
 use Rattle.kv_base.specs.declared.row.Row.{Row}
 use Rattle.sst_parts.specs.RowTexts.{row_text}
-use Rattle.sst_parts.specs.Blocks.{with_row, filled, blocks, block_text}
+use Rattle.sst_parts.specs.Blocks.{with_block_row, filled, blocks, block_text}
 use Rattle.sst_parts.specs.Index.{spots_from, index_text}
 use Rattle.sst_parts.specs.Filter.{hash_of, with_key, filter_of, filter_bits}
-use Rattle.sst_parts.specs.Tables.{keys_of, foot_text, table_text}
+use Rattle.sst_parts.specs.Tables.{raw_keys_of, foot_text, table_text}
 
 -- the string `1` under the key `a`, without a deadline, written first
 pub row_of_a : Row
@@ -35,9 +35,9 @@ pub foot : Bytes
 foot = 0 ∷ 0 ∷ 0 ∷ 0 ∷ 0 ∷ 0 ∷ 0 ∷ 42 ∷ 0 ∷ 0 ∷ 0 ∷ 23 ∷ 0 ∷ 0 ∷ 0 ∷ 0 ∷ 0 ∷ 0 ∷ 0 ∷ 65 ∷ 0 ∷ 0 ∷ 0 ∷ 12 ∷ 0 ∷ 0 ∷ 0 ∷ 0 ∷ 0 ∷ 0 ∷ 0 ∷ 1 ∷ 75 ∷ 86 ∷ 82 ∷ 69 ∷ []
 
 pub table_of_a : table_text (row_of_a ∷ []) ≡ head ++ (block ++ (index ++ (filter ++ foot)))
-unfolding row_of_a head block index filter foot u32 u64 text fnv1a row_text with_row filled blocks block_text spots_from index_text hash_of with_key filter_of filter_bits keys_of foot_text table_text
+unfolding row_of_a head block index filter foot u32 u64 text fnv1a row_text with_block_row filled blocks block_text spots_from index_text hash_of with_key filter_of filter_bits raw_keys_of foot_text table_text
 table_of_a = refl
 
 pub length_of_a : length (table_text (row_of_a ∷ [])) ≡ 113
-unfolding row_of_a head block index filter foot u32 u64 text fnv1a row_text with_row filled blocks block_text spots_from index_text hash_of with_key filter_of filter_bits keys_of foot_text table_text
+unfolding row_of_a head block index filter foot u32 u64 text fnv1a row_text with_block_row filled blocks block_text spots_from index_text hash_of with_key filter_of filter_bits raw_keys_of foot_text table_text
 length_of_a = refl

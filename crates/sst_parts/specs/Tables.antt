@@ -61,9 +61,9 @@ keys_behind last [] = []
 keys_behind last (row ∷ rows) = if same last row.raw then keys_behind last rows else row.raw ∷ keys_behind row.raw rows
 
 -- of rows in order
-unfoldable pub keys_of : List Row → List Bytes
-keys_of [] = []
-keys_of (row ∷ rows) = row.raw ∷ keys_behind row.raw rows
+unfoldable pub raw_keys_of : List Row → List Bytes
+raw_keys_of [] = []
+raw_keys_of (row ∷ rows) = row.raw ∷ keys_behind row.raw rows
 
 -- ---- the parts
 
@@ -71,7 +71,7 @@ abbrev pub table_index : List Row → Bytes
 table_index rows = index_text (spots_from head_length (blocks rows))
 
 abbrev pub table_filter : List Row → Bytes
-table_filter rows = text (filter_bits (keys_of rows))
+table_filter rows = text (filter_bits (raw_keys_of rows))
 
 abbrev pub index_place : List Row → ℕ
 index_place rows = head_length + length (blocks_text (blocks rows))

@@ -4,7 +4,7 @@ ghost use Rattle.std.specs.Prelude.{◌≡◌, ◌≤◌, IfOk, length, map, opt
 ghost use Rattle.kv_base.specs.RowRefs.{row_seen};
 ghost use Rattle.row_model.specs.Rows.{is_row_text};
 ghost use Rattle.row_model.specs.RowOrder.{row_cmp};
-ghost use Rattle.sst_parts.specs.Blocks.{has_room, is_row_behind, is_next_row, read_body, read_next};
+ghost use Rattle.sst_parts.specs.Blocks.{has_room, is_row_behind, is_next_row, read_block_body, read_next};
 
 use crate::block::BLOCK_SIZE;
 use crate::row::{RowFront, take_row};
@@ -20,7 +20,7 @@ pub fn read_body<'a>(
     last: Option<RowRef<'a>>,
     body: &'a [u8],
 ) -> Result<Option<Vec<RowRef<'a>>>, NoMem>
-    ensures { IfOk result (λ found. option_map (λ rows. map row_seen rows.items) found ≡ read_body (option_map row_seen last.entry) body.now) }
+    ensures { IfOk result (λ found. option_map (λ rows. map row_seen rows.items) found ≡ read_block_body (option_map row_seen last.entry) body.now) }
 {
     let mut rows = Vec::new(alloc);
     let mut before = last;

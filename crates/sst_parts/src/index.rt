@@ -2,7 +2,7 @@
 
 ghost use Rattle.std.specs.Prelude.{◌≡◌, ◌≤◌, ◌==◌, ◌++◌, true, false, IfOk, OnOk, length, option_map};
 ghost use Rattle.std.specs.List.Sorted.{IsPartitionPoint};
-ghost use Rattle.sst_parts.specs.Index.{index_text, read_index as index_of, read_spot, read_spots, spot_behind, spot_text, spot_texts};
+ghost use Rattle.sst_parts.specs.Index.{index_text, read_block_index as index_of, read_spot, read_spots, spot_behind, spot_text, spot_texts};
 
 use crate::put::{put_text, put_u32, put_u64};
 use kv_base::{Blob, NoMem, take_text, take_u32, take_u64};
@@ -56,7 +56,7 @@ struct SpotFront<'a> {
 ///
 /// There is at least one block. The blocks follow one another without gaps, the first of them at the place, and the
 /// last one ends at the end.
-#[tactic(auto, unfolding(crate::specs::Index::read_index))]
+#[tactic(auto, unfolding(crate::specs::Index::read_block_index))]
 pub fn read_index(
     alloc: Global,
     place: u64,

@@ -10,13 +10,13 @@ abbrev pub is_life_space : ℕ → Bool
 is_life_space space = space == element_space || space == score_space
 
 -- a number with nothing behind it
-abbrev pub alone : ℕ × Bytes → Option ℕ
-alone front = if is_empty front.1 then Some front.0 else None
+abbrev pub number_alone : ℕ × Bytes → Option ℕ
+number_alone front = if is_empty front.1 then Some front.0 else None
 
 -- the place in a list that these bytes are: a number of eight bytes
 unfoldable pub read_index : Bytes → Option ℕ
-read_index bytes = option_and_then alone (read_u64 bytes)
+read_index bytes = option_and_then number_alone (read_u64 bytes)
 
 -- the score whose eight bytes these are
-unfoldable pub read_score : Bytes → Option ℤ
-read_score bytes = option_map score_from (read_index bytes)
+unfoldable pub read_score_bytes : Bytes → Option ℤ
+read_score_bytes bytes = option_map score_from (read_index bytes)

@@ -6,7 +6,7 @@ ghost use Rattle.kv_base.specs.Map.{Bytes, byte_cmp};
 ghost use Rattle.kv_base.specs.Fields.{u64 as number};
 ghost use Rattle.kv_base.specs.Number.{fits};
 ghost use Rattle.kv_base.specs.RawKeys.{ElementKey, ScoreKey, raw_text, score_number};
-ghost use Rattle.subkey_codec.specs.Numbers.{read_index, read_score};
+ghost use Rattle.subkey_codec.specs.Numbers.{read_index, read_score_bytes};
 
 /// A place in a list is read back from its bytes.
 #[tactic(auto, using(crate::specs::NumberLaws::index_is_read))]
@@ -21,15 +21,15 @@ pub fn only_indices_are_read()
 {}
 
 /// A score is read back from its bytes.
-#[tactic(auto, using(crate::specs::NumberLaws::score_is_read))]
+#[tactic(auto, using(crate::specs::NumberLaws::score_bytes_are_read))]
 pub fn scores_are_read()
-    ensures { (score : ℤ) → IsTrue (fits score) → read_score (number (score_number score)) ≡ Some score }
+    ensures { (score : ℤ) → IsTrue (fits score) → read_score_bytes (number (score_number score)) ≡ Some score }
 {}
 
 /// Nothing else is read: what is read has these bytes.
 #[tactic(auto, using(crate::specs::NumberLaws::only_score_is_read))]
 pub fn only_scores_are_read()
-    ensures { (bytes : Bytes) (score : ℤ) → read_score bytes ≡ Some score → bytes ≡ number (score_number score) }
+    ensures { (bytes : Bytes) (score : ℤ) → read_score_bytes bytes ≡ Some score → bytes ≡ number (score_number score) }
 {}
 
 /// The elements of a list stand in the order of their places.

@@ -3,7 +3,7 @@
 ghost use Rattle.std.specs.Prelude.{◌≡◌, ◌↔◌, IfOk, IsSome, length};
 ghost use Rattle.kv_base.specs.Fields.{u64 as number};
 ghost use Rattle.kv_base.specs.RawKeys.{score_from, score_number};
-ghost use Rattle.subkey_codec.specs.Numbers.{read_index, read_score};
+ghost use Rattle.subkey_codec.specs.Numbers.{read_index, read_score_bytes};
 
 use kv_base::{Blob, NoMem, take_u64};
 use std::alloc::Global;
@@ -17,9 +17,9 @@ pub fn score_value(alloc: Global, score: i64) -> Result<Blob, NoMem>
 }
 
 /// The score whose value this is; `None` exactly where there are not eight bytes.
-#[tactic(auto, unfolding(crate::specs::Numbers::read_score))]
+#[tactic(auto, unfolding(crate::specs::Numbers::read_score_bytes))]
 pub fn decode_score(bytes: &[u8]) -> Option<i64>
-    ensures score { result ≡ read_score bytes.now }
+    ensures score { result ≡ read_score_bytes bytes.now }
     ensures eight { IsSome result ↔ (length bytes.now ≡ 8) }
 {
     let number = decode_index(bytes)?;

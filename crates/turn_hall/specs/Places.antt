@@ -6,18 +6,18 @@ use Rattle.redis_model.specs.declared.history.Place.{Place}
 use Rattle.turn_hall.specs.Hands.{entries_of}
 
 -- the number of an entry's caller
-abbrev pub caller_of : Step → ℕ
-caller_of (Tick now caller) = caller
-caller_of (Call now caller command) = caller
-caller_of (Exec now caller commands) = caller
-caller_of (PinNow now caller) = caller
-caller_of (PinnedRead now caller command) = caller
-caller_of (PinnedRefused now caller commands) = caller
-caller_of (Unpin now caller) = caller
-caller_of (Job caller kind mark) = caller
+abbrev pub step_caller : Step → ℕ
+step_caller (Tick now caller) = caller
+step_caller (Call now caller command) = caller
+step_caller (Exec now caller commands) = caller
+step_caller (PinNow now caller) = caller
+step_caller (PinnedRead now caller command) = caller
+step_caller (PinnedRefused now caller commands) = caller
+step_caller (Unpin now caller) = caller
+step_caller (Job caller kind mark) = caller
 
 abbrev pub by_of : Place → ℕ
-by_of p = caller_of p.what
+by_of p = step_caller p.what
 
 -- of this number the histories have the same entries
 abbrev pub SameOwn : ℕ → List Place → List Place → Type 0

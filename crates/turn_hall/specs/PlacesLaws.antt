@@ -8,9 +8,9 @@ use Rattle.redis_model.specs.Desk.{mine}
 use Rattle.redis_model.specs.Legal.{is_call_of, is_job_of, jobs_of}
 use Rattle.redis_model.specs.Places.{steps_of}
 use Rattle.turn_hall.specs.Hands.{entries_of}
-use Rattle.turn_hall.specs.Places.{caller_of, by_of}
+use Rattle.turn_hall.specs.Places.{step_caller, by_of}
 
-no_call : (n : ℕ) (s : Step) → (caller_of s == n) ≡ false → is_call_of n s ≡ false
+no_call : (n : ℕ) (s : Step) → (step_caller s == n) ≡ false → is_call_of n s ≡ false
 no_call n (Tick now caller) h = h
 no_call n (Call now caller command) h = h
 no_call n (Exec now caller commands) h = h
@@ -20,7 +20,7 @@ no_call n (PinnedRefused now caller commands) h = h
 no_call n (Unpin now caller) h = h
 no_call n (Job caller kind mark) h = refl
 
-no_job : (n : ℕ) (s : Step) → (caller_of s == n) ≡ false → is_job_of n s ≡ false
+no_job : (n : ℕ) (s : Step) → (step_caller s == n) ≡ false → is_job_of n s ≡ false
 no_job n (Tick now caller) h = refl
 no_job n (Call now caller command) h = refl
 no_job n (Exec now caller commands) h = refl

@@ -12,12 +12,12 @@ abbrev pub stamp_of : Record → Stamp
 stamp_of r = record { seq = r.seq; moment = r.moment }
 
 -- its sequence is one more than that of the record before it, and its moment is not below
-abbrev pub is_next : Stamp → Record → Bool
-is_next last next = (next.seq == last.seq + 1) && nat_le last.moment next.moment
+abbrev pub is_next_record : Stamp → Record → Bool
+is_next_record last next = (next.seq == last.seq + 1) && nat_le last.moment next.moment
 
 -- the record with this body, where it is one's and that record may stand behind the last one
 unfoldable pub record_behind : Stamp → Bytes → Option Record
-record_behind last body = option_and_then (λ next. if is_next last next then Some next else None) (read_body body)
+record_behind last body = option_and_then (λ next. if is_next_record last next then Some next else None) (read_body body)
 
 -- a record before what stands behind it, which may be damage
 abbrev pub with_first : Record → Result (List Record) ℕ → Result (List Record) ℕ

@@ -3,7 +3,7 @@ ghost use Rattle.kv_base.specs.declared.name.FileName.TheVariants.{Segment};
 ghost use Rattle.kv_outside.specs.Causes.{Rose};
 ghost use Rattle.kv_outside.specs.Disk.{NothingNew};
 ghost use Rattle.wal_log.specs.Reads.{ReadsBytes, ReadsSegment};
-ghost use Rattle.wal_log.specs.Segments.{is_next as may_follow, record_behind};
+ghost use Rattle.wal_log.specs.Segments.{is_next_record as may_follow, record_behind};
 
 use crate::segment::{Found, Stamp};
 use batch_codec::{Record, decode_body};

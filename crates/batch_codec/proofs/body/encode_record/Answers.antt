@@ -2,7 +2,7 @@ use Rattle.std.proofs.Common.{◌≡◌, ◌≤◌, ℕ, List, [], ◌++◌, len
 use Rattle.kv_base.specs.Map.{Bytes, size}
 use Rattle.kv_base.specs.Fields.{u32, u64}
 use Rattle.batch_codec.specs.Batches.{Batch, BatchEntry}
-use Rattle.batch_codec.specs.BodyLaws.{length-body, many}
+use Rattle.batch_codec.specs.BodyLaws.{length-body, entries_have_bytes}
 use Rattle.batch_codec.specs.Bodies.{body_of, entries_text}
 use Rattle.batch_codec.proofs.body.encode_record.Goals as goal
 
@@ -10,7 +10,7 @@ pub overflow_cast-len : goal.overflow_cast-len
 unfolding size
 overflow_cast-len c =
     let whole = length-body c.args.seq c.args.moment c.args.batch.now in
-    let bound = many c.args.batch.now.entries in
+    let bound = entries_have_bytes c.args.batch.now.entries in
     omega (arith, whole, bound, c.len.ensures.count, c.requires.fits)
 
 pub write_entries-requires : goal.write_entries-requires

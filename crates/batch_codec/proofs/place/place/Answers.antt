@@ -9,7 +9,7 @@ use Rattle.std.specs.FinMap.Entries.{is_sorted}
 use Rattle.std.proofs.lemmas.Fn.{always_returns_same}
 use Rattle.kv_base.specs.Map.{Bytes, byte_cmp}
 use Rattle.batch_codec.specs.declared.slot.Entry.{Entry}
-use Rattle.batch_codec.specs.Slots.{pair, pairs}
+use Rattle.batch_codec.specs.Slots.{slot_entry, slot_entries}
 use Rattle.batch_codec.specs.BatchMaps.{IsBetween}
 use Rattle.batch_codec.specs.EntryListLaws.{rises, past_last}
 use Rattle.batch_codec.proofs.place.place.Goals as goal
@@ -24,13 +24,13 @@ found : (raw : Bytes) (xs : List Entry) (r : Result ℕ ℕ) → IsSearchInRange
 found raw xs (Ok at) bound place = (bound, place)
 found raw xs (Err at) bound place = tt
 
-absent : (raw : Bytes) (xs : List Entry) (r : Result ℕ ℕ) → T (is_sorted byte_cmp (pairs xs)) → IsSearchInRange r (length xs) → IsBinarySearchResult (λ e. byte_cmp e.raw raw) xs r
+absent : (raw : Bytes) (xs : List Entry) (r : Result ℕ ℕ) → T (is_sorted byte_cmp (slot_entries xs)) → IsSearchInRange r (length xs) → IsBinarySearchResult (λ e. byte_cmp e.raw raw) xs r
     → IfErr r (λ at. (at ≤ length xs) × IsPartitionPoint (λ e. byte_cmp e.raw raw ≡ Less) (λ e. byte_cmp e.raw raw ≡ Greater) xs at)
 absent raw xs (Ok at) h bound place = tt
-absent raw xs (Err at) h bound place = (bound, place (rises pair raw xs h))
+absent raw xs (Err at) h bound place = (bound, place (rises slot_entry raw xs h))
 
-behind : (raw : Bytes) (xs : List Entry) (last : Entry) → T (is_sorted byte_cmp (pairs xs)) → ((d : Entry) → last ≡ get_or xs (length xs - 1) d) → byte_cmp last.raw raw ≡ Less → IsBetween xs raw (length xs)
-behind raw xs last h is less = (omega arith, past_last pair raw xs h (λ d. subst (λ (e : Entry). byte_cmp e.raw raw ≡ Less) (is d) less))
+behind : (raw : Bytes) (xs : List Entry) (last : Entry) → T (is_sorted byte_cmp (slot_entries xs)) → ((d : Entry) → last ≡ get_or xs (length xs - 1) d) → byte_cmp last.raw raw ≡ Less → IsBetween xs raw (length xs)
+behind raw xs last h is less = (omega arith, past_last slot_entry raw xs h (λ d. subst (λ (e : Entry). byte_cmp e.raw raw ≡ Less) (is d) less))
 
 pub returns-in-Some-clause-absent : goal.returns-in-Some-clause-absent
 returns-in-Some-clause-absent c = behind c.args.raw.now c.args.entries.now c.in-Some.last.now c.requires (λ d. c.in-Some.ensures.item.4 (omega arith) d)

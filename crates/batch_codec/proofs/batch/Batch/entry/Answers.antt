@@ -2,7 +2,7 @@ use Rattle.std.proofs.Common.{◌≡◌, ℕ, ◌<◌, List, Option, Some, lengt
 use Rattle.std.specs.List.{slice_get}
 use Rattle.kv_base.specs.Map.{Bytes}
 use Rattle.batch_codec.specs.declared.slot.Entry.{Entry}
-use Rattle.batch_codec.specs.Slots.{pair, slot_value, batch_of}
+use Rattle.batch_codec.specs.Slots.{slot_entry, slot_value, batch_of}
 use Rattle.batch_codec.specs.BatchMaps.{AreSortedEntries}
 use Rattle.batch_codec.specs.BatchMapLaws.{entry_at, no_entry_at}
 use Rattle.batch_codec.proofs.batch.Batch.entry.Goals as goal
@@ -12,7 +12,7 @@ seen : (xs slice : List Entry) (at : ℕ) (entry : Entry) (raw : Bytes) (value :
 seen xs slice at entry raw value h same low is raw_is value_is =
     let lengths = ap length same in
     let there = entry_at xs at entry h (omega (arith, lengths, low)) in
-    (λ i. Some (raw_is i, value_is i)) ∙ ap (λ e. Some (pair e)) (is ∙ ap (λ s. get_or s at entry) same) ∙ sym there
+    (λ i. Some (raw_is i, value_is i)) ∙ ap (λ e. Some (slot_entry e)) (is ∙ ap (λ s. get_or s at entry) same) ∙ sym there
 
 pub returns-in_err-entry : goal.returns-in_err-entry
 returns-in_err-entry c =
