@@ -19,12 +19,12 @@ use Rattle.plan_base.specs.Ahead.{ahead, seen_deadlines}
 -- ---- the lesser of two, of which each may be none
 
 -- of one and none it is the one
-least_none : (a : Option ℕ) → least a None ≡ a
+pub least_none : (a : Option ℕ) → least a None ≡ a
 least_none None = refl
 least_none (Some a) = refl
 
 -- of the same twice it is the same
-least_itself : (a : Option ℕ) → least a a ≡ a
+pub least_itself : (a : Option ℕ) → least a a ≡ a
 least_itself None = refl
 least_itself (Some a) = by_test (nat_lt a a)
   where
@@ -33,7 +33,7 @@ least_itself (Some a) = by_test (nat_lt a a)
     by_test false = refl
 
 -- the order of the two does not matter
-least_turned : (a b : Option ℕ) → least a b ≡ least b a
+pub least_turned : (a b : Option ℕ) → least a b ≡ least b a
 least_turned None None = refl
 least_turned None (Some b) = refl
 least_turned (Some a) None = refl
@@ -46,7 +46,7 @@ least_turned (Some a) (Some b) = by_tests (nat_lt a b) (nat_lt b a) refl refl
     by_tests false false ab ba = let low = ltb-false a b ab in let high = ltb-false b a ba in let is : b ≡ a = omega arith in ap (λ (n : ℕ). Some n) is
 
 -- nor does it matter how three are grouped
-least_grouped : (a b d : Option ℕ) → least (least a b) d ≡ least a (least b d)
+pub least_grouped : (a b d : Option ℕ) → least (least a b) d ≡ least a (least b d)
 least_grouped None b d = refl
 least_grouped (Some a) None d = refl
 least_grouped (Some a) (Some b) None = least_none (least (Some a) (Some b))
@@ -65,7 +65,7 @@ least_grouped (Some a) (Some b) (Some d) = by_tests (nat_lt a b) (nat_lt b d) re
 -- ---- the least above a moment
 
 -- the sooner of two is the lesser one, where the first lies ahead
-sooner_is : (t : ℕ) (d u : Option ℕ) → sooner t d u ≡ least (ahead t d) u
+pub sooner_is : (t : ℕ) (d u : Option ℕ) → sooner t d u ≡ least (ahead t d) u
 sooner_is t None u = refl
 sooner_is t (Some d) None = by_test (nat_lt t d)
   where
@@ -113,7 +113,7 @@ least_above-nones t f (k ∷ ks) none =
 -- ---- the deadlines of a command's keys
 
 -- the deadlines of keys are those in their metadata
-seen_all : {c : Rows} {t : ℕ} {m : RedisMap} (means : Means c t m) (ks : List Bytes) → map (deadline_at m) ks ≡ seen_deadlines c t ks
+pub seen_all : {c : Rows} {t : ℕ} {m : RedisMap} (means : Means c t m) (ks : List Bytes) → map (deadline_at m) ks ≡ seen_deadlines c t ks
 seen_all {c} {t} {m} means [] = refl
 seen_all {c} {t} {m} means (k ∷ ks) = let one = seen_deadline means k in let rest = seen_all means ks in λ i. one i ∷ rest i
 

@@ -6,7 +6,7 @@ use Rattle.std.specs.Prelude.{Option, Some, None, Ok, Err, IsTrue, IsFalse, ◌&
 use Rattle.kv_base.specs.Map.{Bytes, same, same_itself, same_is, get, empty, insert, remove, get-insert, get-remove, same_map}
 use Rattle.kv_base.specs.InversionLaws.{both_first}
 use Rattle.kv_base.specs.RawKeys.{is_key}
-use Rattle.kv_base.specs.MetaValues.{MetaValue, StringValue, LifeValue, ListValue, is_deadline, is_payload, is_meta_within, meta_text}
+use Rattle.kv_base.specs.MetaValues.{MetaValue, StringValue, LifeValue, ListValue, is_deadline, is_payload, is_meta_within, meta_text, expire_of}
 use Rattle.meta_codec.specs.Metas.{with_expire}
 use Rattle.redis_model.specs.declared.reply.Reply.{Reply}
 use Rattle.redis_model.specs.declared.reply.Reply.TheVariants as reply
@@ -24,7 +24,7 @@ use Rattle.redis_model.specs.Limits.{IsTime}
 use Rattle.redis_model.specs.Touched.{touched, is_touched, written_again, differs}
 use Rattle.redis_model.specs.TouchedLaws.{among_touched_done, touched_refused, reading_touches_nothing, same_entry_decides, apply-untouched}
 use Rattle.lives_model.specs.Rows.{Rows}
-use Rattle.lives_model.specs.Clean.{live_at, deadline_from, expire_of}
+use Rattle.lives_model.specs.Clean.{live_at, deadline_from}
 use Rattle.lives_model.specs.Means.{Means}
 use Rattle.lives_model.specs.Plans.{IsPlanOf, least_above}
 use Rattle.lives_model.specs.StepLaws.{live_fits}

@@ -15,7 +15,7 @@ use Rattle.kv_base.specs.RawKeys.{life_prefix}
 use Rattle.redis_model.specs.Value.{Value}
 use Rattle.lives_model.specs.Rows.{Rows, Elements, space_of, row_key}
 use Rattle.lives_model.specs.Means.{LifeAt}
-use Rattle.lives_model.specs.Passing.{asked}
+use Rattle.lives_model.specs.Passing.{is_asked}
 use Rattle.lives_model.specs.LifeRows.{HasRowsOf, value_rows}
 use Rattle.lives_model.specs.LifePageLaws.{life_whole}
 use Rattle.plan_base.specs.LifeChanges.{adds_row, removes_row, added_rows, removed_rows}
@@ -149,6 +149,6 @@ passing_after_batch p c b all = passing_after p c b.entries b.sorted all
 
 -- those that begin with the prefix of a life are as many as its value has elements
 pub rows_of_life : (c : Rows) (k : Bytes) (life : LifeAt) (v : Value) → HasRowsOf c k life v
-    → rows_passing (asked (life_prefix (space_of Elements) k life.version) (life_prefix (space_of Elements) k life.version)) c ≡ length (value_rows v life.head Elements)
+    → rows_passing (is_asked (life_prefix (space_of Elements) k life.version) (life_prefix (space_of Elements) k life.version)) c ≡ length (value_rows v life.head Elements)
 unfolding rows_passing size keep
 rows_of_life c k life v has = ap length (life_whole c k life v has Elements) ∙ length-map (value_rows v life.head Elements) (λ row. (row_key Elements k life.version row.0, row.1))

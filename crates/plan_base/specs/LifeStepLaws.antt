@@ -75,7 +75,7 @@ module _ {c : Rows} {b : Batch} {k : Bytes} {e : Entry} {life : LifeAt} {expire 
       by_row side version subkey hv hq (Some x) is = absurd (never (row_is_here side q version subkey hq hv (ap is_some is)).0)
 
   -- and of its key what the plan relation asks for
-  writes_entry : WritesEntry c b k e life
+  pub writes_entry : WritesEntry c b k e life
   writes_entry = record {
     expire = expire;
     deadline = w.deadline;

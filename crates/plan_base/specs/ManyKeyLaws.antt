@@ -29,7 +29,7 @@ use Rattle.plan_base.specs.MetaRowLaws.{only_meta_empty, only_meta_insert, meta_
 use Rattle.plan_base.specs.KeySteps.{TellsKey, alive_entry}
 use Rattle.plan_base.specs.KeyStepLaws.{apply_done, keys_step}
 use Rattle.plan_base.specs.KeyPlanLaws.{string_tells}
-use Rattle.plan_base.specs.ManyKeys.{with_string, strings_batch, with_strings, names_of, IsPair, with_delete, deletes_batch, without}
+use Rattle.plan_base.specs.ManyKeys.{with_string, strings_batch, with_strings, names_of, IsPair, with_delete, deletes_batch, without_keys}
 
 -- ---- strings at many keys
 
@@ -173,7 +173,7 @@ deletes_only c t (k ∷ ks) b short only =
     by_test false = only
 
 -- nothing is left at a key that is named
-without_at : (m : RedisMap) (ks : List Bytes) (q : Bytes) → IsTrue (among ks q) → get (without m ks) q ≡ None
+without_at : (m : RedisMap) (ks : List Bytes) (q : Bytes) → IsTrue (among ks q) → get (without_keys m ks) q ≡ None
 without_at m ks q named = get-keep (λ k _. not (among ks k)) m q ∙ by_entry (get m q)
   where
     by_entry : (o : Option Entry) → kept (λ _. not (among ks q)) o ≡ None
@@ -272,14 +272,14 @@ removed_at (k ∷ ks) n q = removed_at ks (remove n k) q ∙ ap (kept (λ _. not
     by_test false a o = refl
 
 -- the deletes are as many as the keys that go
-pub deletes_count : {c : Rows} {t : ℕ} {m : RedisMap} (means : Means c t m) (ks : List Bytes) → size (deletes_batch c t ks) ≡ size m - size (without m ks)
+pub deletes_count : {c : Rows} {t : ℕ} {m : RedisMap} (means : Means c t m) (ks : List Bytes) → size (deletes_batch c t ks) ≡ size m - size (without_keys m ks)
 deletes_count {c} {t} {m} means ks =
     let start : AreApart m m (empty {X = Option Bytes}) = record {
       left = λ q. yes (has m q) ∙ ap (λ o. has m q && not (is_some o)) (sym (get-empty (meta_key q)));
       sum = let none = size-empty (Option Bytes) in omega (arith, none);
     } in
     let apart = apart_all means ks m empty start in
-    let same : size (fold remove m ks) ≡ size (without m ks) = ap size (same_map _ (without m ks) (λ q. removed_at ks m q ∙ sym (get-keep (λ k _. not (among ks k)) m q))) in
+    let same : size (fold remove m ks) ≡ size (without_keys m ks) = ap size (same_map _ (without_keys m ks) (λ q. removed_at ks m q ∙ sym (get-keep (λ k _. not (among ks k)) m q))) in
     let all = apart.sum in
     omega (arith, all, same)
   where
@@ -289,19 +289,19 @@ deletes_count {c} {t} {m} means ks =
 
 -- A command that takes away those of its keys that are there, of any type, and answers how many.
 pub deleted_plan : {c : Rows} {t : ℕ} {m : RedisMap} (fresh : ℕ) (d : Command)
-    → Means c t m → carried_out m t d ≡ Ok (number (size m - size (without m (keys_of d))), without m (keys_of d))
-    → written_again m (without m (keys_of d)) d ≡ [] → All (λ k. IsTrue (is_key k)) (keys_of d)
+    → Means c t m → carried_out m t d ≡ Ok (number (size m - size (without_keys m (keys_of d))), without_keys m (keys_of d))
+    → written_again m (without_keys m (keys_of d)) d ≡ [] → All (λ k. IsTrue (is_key k)) (keys_of d)
     → IsPlanOf c t fresh m d (deletes_batch c t (keys_of d)) (number (size (deletes_batch c t (keys_of d)))) (least_above t (seen_deadlines c t (keys_of d)))
 deleted_plan {c} {t} {m} fresh d means is none short = record {
-  step = keys_step fresh d (deletes_batch c t (keys_of d)) (number (size (deletes_batch c t (keys_of d)))) (without m (keys_of d)) means
-      (done ∙ (λ i. (number (sym (deletes_count means (keys_of d)) i), without m (keys_of d))))
+  step = keys_step fresh d (deletes_batch c t (keys_of d)) (number (size (deletes_batch c t (keys_of d)))) (without_keys m (keys_of d)) means
+      (done ∙ (λ i. (number (sym (deletes_count means (keys_of d)) i), without_keys m (keys_of d))))
       (record {
         only = deletes_only c t (keys_of d) empty short only_meta_empty;
         told = λ q h.
             let both = sym (touched_is q) ∙ h in
-            let named = both_second (differs m (without m (keys_of d)) q) (among (keys_of d) q) both in
+            let named = both_second (differs m (without_keys m (keys_of d)) q) (among (keys_of d) q) both in
             let gone = without_at m (keys_of d) q named in
-            let there = is_there q gone (both_first (differs m (without m (keys_of d)) q) (among (keys_of d) q) both) in
+            let there = is_there q gone (both_first (differs m (without_keys m (keys_of d)) q) (among (keys_of d) q) both) in
             subst (λ (o : Option Entry). TellsKey c t fresh m d q (get (deletes_batch c t (keys_of d)) (meta_key q)) (alive_entry t o)) (sym gone)
             (deletes_at c t (keys_of d) empty q ∙ ap (λ a. cond (a && is_some (live_at c t q)) (Some None) (get empty (meta_key q))) named
             ∙ ap (λ a. cond a (Some None) (get empty (meta_key q))) (sym (seen_there means q) ∙ there));
@@ -311,28 +311,28 @@ deleted_plan {c} {t} {m} fresh d means is none short = record {
   ahead = ahead_cleared means d (λ q named. ap (λ r. deadline_at r.1 q) done ∙ ap (option_and_then (λ e. e.deadline)) (without_at m (keys_of d) q named));
 }
   where
-    done : apply m t d ≡ (number (size m - size (without m (keys_of d))), without m (keys_of d))
+    done : apply m t d ≡ (number (size m - size (without_keys m (keys_of d))), without_keys m (keys_of d))
     done = apply_done m t d _ is
 
-    touched_is : (q : Bytes) → touches m t d q ≡ (differs m (without m (keys_of d)) q && among (keys_of d) q)
+    touched_is : (q : Bytes) → touches m t d q ≡ (differs m (without_keys m (keys_of d)) q && among (keys_of d) q)
     touched_is q =
         among_touched_done m t d _ q is
-        ∙ ap (λ ks. (among ks q || differs m (without m (keys_of d)) q) && among (keys_of d) q) none
+        ∙ ap (λ ks. (among ks q || differs m (without_keys m (keys_of d)) q) && among (keys_of d) q) none
 
-    is_there : (q : Bytes) → get (without m (keys_of d)) q ≡ None → differs m (without m (keys_of d)) q ≡ true → has m q ≡ true
+    is_there : (q : Bytes) → get (without_keys m (keys_of d)) q ≡ None → differs m (without_keys m (keys_of d)) q ≡ true → has m q ≡ true
     is_there q gone h = by_entry (get m q) refl
       where
         by_entry : (o : Option Entry) → get m q ≡ o → is_some o ≡ true
         by_entry None e =
-            let equal : differs m (without m (keys_of d)) q ≡ false = ap not ((same_entry_decides (get m q) (get (without m (keys_of d)) q)).1 (e ∙ sym gone)) in
+            let equal : differs m (without_keys m (keys_of d)) q ≡ false = ap not ((same_entry_decides (get m q) (get (without_keys m (keys_of d)) q)).1 (e ∙ sym gone)) in
             absurd (cc)
         by_entry (Some x) e = refl
 
-    by_test : (q : Bytes) (a : Bool) → among (keys_of d) q ≡ a → (differs m (without m (keys_of d)) q && a) ≡ false
+    by_test : (q : Bytes) (a : Bool) → among (keys_of d) q ≡ a → (differs m (without_keys m (keys_of d)) q && a) ≡ false
         → cond (a && is_some (live_at c t q)) (Some None) (get (empty {X = Option Bytes}) (meta_key q)) ≡ get empty (meta_key q)
     by_test q true named h =
-        let stays = differs_not (differs m (without m (keys_of d)) q) h in
-        let equal : get m q ≡ get (without m (keys_of d)) q = (same_entry_decides (get m q) (get (without m (keys_of d)) q)).0 (not-false _ stays) in
+        let stays = differs_not (differs m (without_keys m (keys_of d)) q) h in
+        let equal : get m q ≡ get (without_keys m (keys_of d)) q = (same_entry_decides (get m q) (get (without_keys m (keys_of d)) q)).0 (not-false _ stays) in
         let gone : has m q ≡ false = ap is_some (equal ∙ without_at m (keys_of d) q named) in
         ap (λ a. cond a (Some None) (get empty (meta_key q))) (sym (seen_there means q) ∙ gone)
       where

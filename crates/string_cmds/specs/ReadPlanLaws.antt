@@ -10,7 +10,7 @@ use Rattle.redis_model.specs.declared.command.Command.TheVariants as cmd
 use Rattle.redis_model.specs.Value.{Entry, RedisMap}
 use Rattle.redis_model.specs.Outcome.{Outcome, ◌>>=◌, answered, number, bulk_or_null, string_at}
 use Rattle.redis_model.specs.Strings.{range}
-use Rattle.redis_model.specs.Keys.{left, left_until, seconds}
+use Rattle.redis_model.specs.Keys.{left, left_until, rounded_seconds}
 use Rattle.redis_model.specs.About.{keys_of, writes}
 use Rattle.redis_model.specs.Apply.{apply, carried_out}
 use Rattle.lives_model.specs.Rows.{Rows}
@@ -94,4 +94,4 @@ p_ttl_carries c t fresh k w = reads c t fresh (cmd.PTtl k w) k (reply.Int (left_
 
 pub ttl_carries : (c : Rows) (t fresh : ℕ) (k : Bytes) (w : ℕ) → CarriesOut c t fresh (cmd.Ttl k w) (ttl_plan t (live_at c t k))
 unfolding carried_out apply ttl_plan
-ttl_carries c t fresh k w = reads c t fresh (cmd.Ttl k w) k (reply.Int (seconds (left_in t (live_at c t k)))) refl refl (λ m means. ap (λ z. reply.Int (seconds z)) (left_is means k))
+ttl_carries c t fresh k w = reads c t fresh (cmd.Ttl k w) k (reply.Int (rounded_seconds (left_in t (live_at c t k)))) refl refl (λ m means. ap (λ z. reply.Int (rounded_seconds z)) (left_is means k))

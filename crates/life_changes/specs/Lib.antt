@@ -1,0 +1,2 @@
+pub mod ChangeSteps
+pub mod ChangeAnswers

@@ -1,0 +1,5 @@
+pub mod LifeElements
+pub mod LifeElementLaws
+pub mod PageWalks
+pub mod Whole
+pub mod WholeLaws

@@ -1,0 +1,14 @@
+pub mod WantedRows
+pub mod WantedLaws
+pub mod ChangePlans
+pub mod Changes
+pub mod ElementLaws
+pub mod ChangeSizeLaws
+pub mod ChangePlanLaws
+pub mod AlikePlanLaws
+pub mod KeyParts
+pub mod KeyPartLaws
+pub mod SetLives
+pub mod SetLiveLaws
+pub mod StoredSets
+pub mod StoredSetLaws
