@@ -1,0 +1,6 @@
+pub mod Planned
+pub mod Found
+pub mod MovePlanned
+pub mod ReadPlanLaws
+pub mod MembersPlanLaws
+pub mod MovePlanLaws

@@ -1,0 +1,5 @@
+pub mod Combined
+pub mod SetListLaws
+pub mod CombinedLaws
+pub mod Stored
+pub mod StoredLaws
