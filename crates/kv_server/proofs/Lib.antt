@@ -1,4 +1,3 @@
-pub mod Planning
 pub mod Talk
 pub mod ToldDesk
 pub mod Reopened

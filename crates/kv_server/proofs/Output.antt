@@ -16,7 +16,7 @@ use Rattle.session.specs.InputLaws.{ends_input}
 use Rattle.session.specs.Quits.{has_quit}
 use Rattle.session.specs.QuitLaws.{has_quit-none}
 use Rattle.session.specs.Session.{Session, IsCaused, end_line}
-use Rattle.session.specs.Talk.{Talks, text}
+use Rattle.session.specs.Talk.{Talks, answers_text}
 use Rattle.kv_server.specs.Dialog.{StoreState}
 use Rattle.kv_server.specs.Outside.{Outside}
 use Rattle.kv_server.specs.Script.{status, first_readings, AreTold, Ran, Talked, OutputOf, IsAnswered, IsRejected, HasFront, IsComplete, EndsBadly, IsWhole}
@@ -60,7 +60,7 @@ later_at told o old new l l' h i b b' p = talks_later told old new p.served p.an
 -- ---- by the status
 
 -- what was written, where no call to the sink failed
-output_of : (s t : StoreState) (a b h i : Known) (served : List (List Bytes)) (answers : List Answer) (line : Bytes) → Talked s t served answers a b → Appends h i (text answers ++ line) → OutputOf s t a h i served answers line
+output_of : (s t : StoreState) (a b h i : Known) (served : List (List Bytes)) (answers : List Answer) (line : Bytes) → Talked s t served answers a b → Appends h i (answers_text answers ++ line) → OutputOf s t a h i served answers line
 output_of s t a b h i served answers line talked wrote = record { nows = talked.nows; told = are_told a b talked.nows talked.readings; dialog = talked.dialog; wrote = wrote }
 
 -- an input that goes off has no QUIT before

@@ -37,7 +37,7 @@ use Rattle.cmd_words.specs.declared.parsed.Parsed.{Parsed}
 use Rattle.cmd_words.specs.declared.parsed.Parsed.TheVariants as parsed
 use Rattle.session.specs.declared.answer.Answer.{Answer}
 use Rattle.session.specs.declared.answer.Answer.TheVariants as answer
-use Rattle.session.specs.Answer.{answered}
+use Rattle.session.specs.Answer.{desk_answer}
 use Rattle.session.specs.Talk.{Asked, ToDesk, Own, asked, Asks, TurnBy as TurnAt, Talks}
 use Rattle.log_store.specs.Playing.{batches_of, planned_for}
 use Rattle.kv_server.specs.Alone.{IsOwnCall, AreOwnCalls, batches_at, batches_in, batches_by}
@@ -246,7 +246,7 @@ module _ {D : Type 0} (told : D → DeskState) (sequence : D → ℕ) (alone : I
     where
       by_result : (result : Result Reply DeskFault) (after : List Place) → (told new).stands opening after → LeavesPlaces 0 opening.state seen p.now (ask.Call (due p.now asking)) result after → HasReason (told p.mid).faults (told new) result
           → (IsFalse (writes (due p.now asking)) → (told new).body ≡ 0) → OnErr result ((told new).planned p.now (ask.Call (due p.now asking)))
-          → CommandAnswers (store_at told sequence old opening seen) p.now (due p.now asking) (answered result) (store_at told sequence new opening after) × Grows opening.state seen after (batches_by (state_at opening.state seen) p.now (due p.now asking) result)
+          → CommandAnswers (store_at told sequence old opening seen) p.now (due p.now asking) (desk_answer result) (store_at told sequence new opening after) × Grows opening.state seen after (batches_by (state_at opening.state seen) p.now (due p.now asking) result)
       by_result (Ok reply) after stands l why idle planned =
           let e = entered_is opening.state seen after p.now (due p.now asking) (alone.calls new opening after stands) (alone.free old opening seen stood) reply l in
           let n = sequence_grows opening.state opening.last seen e.1.added after e.1.grown (sequence old) (sequence new) (alone.batches old opening seen stood) (alone.batches new opening after stands) in
@@ -301,7 +301,7 @@ pub record KeptOn {D : Type 0} (told : D → DeskState) (new : D) (before : List
   pub were : (ds : Cmds) → Contains failed ds → Contains before ds ⊎ OneFailed served answers ds
 
 kept_by_answer : {D : Type 0} (told : D → DeskState) (new : D) (before : List Cmds) (words : List Bytes) (read : Result Parsed CommandFault) (now : ℕ) (c : Command) (answer : Answer) (result : Result Reply DeskFault)
-    → IsParsed read (parsed_as words) → asked read ≡ ToDesk (ask.Call c) → answer ≡ answered result → (told new).kept (failed_with (One (due now c)) result before) → KeptOn told new before (words ∷ []) (answer ∷ [])
+    → IsParsed read (parsed_as words) → asked read ≡ ToDesk (ask.Call c) → answer ≡ desk_answer result → (told new).kept (failed_with (One (due now c)) result before) → KeptOn told new before (words ∷ []) (answer ∷ [])
 kept_by_answer told new before words read now c answer (Ok reply) is asks says kept = record { failed = before; kept = kept; were = λ ds among. inl among }
 kept_by_answer told new before words read now c answer (Err e) is asks says kept = record {
   failed = before ++ One (due now c) ∷ [];

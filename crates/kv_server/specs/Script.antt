@@ -10,9 +10,9 @@ use Rattle.session.specs.Input.{IsOff}
 use Rattle.session.specs.declared.answer.Answer.{Answer}
 use Rattle.session.specs.declared.session.Outcome.{Outcome}
 use Rattle.session.specs.declared.session.Outcome.TheVariants as outcome
-use Rattle.session.specs.Talk.{text}
+use Rattle.session.specs.Talk.{answers_text}
 use Rattle.session.specs.Session.{AreFirst, EndsAs, IsCaused, Writing, end_line}
-use Rattle.kv_conf.specs.CommandLine.{asked}
+use Rattle.kv_conf.specs.CommandLine.{asked_line}
 use Rattle.kv_conf.specs.declared.words.Words.{Words}
 use Rattle.kv_conf.specs.declared.words.Words.TheVariants as words
 use Rattle.kv_base.specs.declared.fault.StoreFault.{StoreFault}
@@ -34,7 +34,7 @@ names_script _ = false
 
 -- whether the words ask for `script`, by the grammar of command lines
 abbrev pub is_script : List Bytes → Bool
-is_script line = names_script (asked line)
+is_script line = names_script (asked_line line)
 
 abbrev pub status : Outcome → ℕ
 status outcome.Closed = 0
@@ -56,7 +56,7 @@ pub record Ran (o : Outcome) (old new : Outside) : Type 0 where
   pub took : Consumes old.left new.left taken
   pub limit : length taken ≤ 2 ^ 40
   pub ends : EndsAs o taken served line new.left old.ended new.ended
-  pub wrote : Writing o old.held new.held (text answers ++ line)
+  pub wrote : Writing o old.held new.held (answers_text answers ++ line)
 
 -- These requests have these answers of the machine, at these readings of the clock, from one state of the store to another.
 pub record Talked (old new : StoreState) (served : List (List Bytes)) (answers : List Answer) (ahead ahead' : Option (List ℕ)) : Type 0 where
@@ -99,11 +99,11 @@ AreTold None nows = Unit {0}
 AreTold (Some told) nows = nows ≡ first_readings (length nows) told
 
 -- What was written are the answers to these requests, and this line behind them.
-pub record OutputOf (old new : StoreState) (ahead held held' : Option (List ℕ)) (asked : List (List Bytes)) (answers : List Answer) (line : Bytes) : Type 0 where
+pub record OutputOf (old new : StoreState) (ahead held held' : Option (List ℕ)) (asked_line : List (List Bytes)) (answers : List Answer) (line : Bytes) : Type 0 where
   pub nows : List ℕ
   pub told : AreTold ahead nows
-  pub dialog : Dialog old asked nows answers new
-  pub wrote : Appends held held' (text answers ++ line)
+  pub dialog : Dialog old asked_line nows answers new
+  pub wrote : Appends held held' (answers_text answers ++ line)
 
 -- What was answered, and the line behind the answers, where the sink failed: the first of the requests up to a QUIT, and no
 -- line, or all requests before a fault of the wire, and its line.
@@ -117,7 +117,7 @@ pub record FrontOf (old new : StoreState) (ahead held held' : Option (List ℕ))
   pub nows : List ℕ
   pub told : AreTold ahead nows
   pub dialog : Dialog old served nows answers new
-  pub wrote : AppendsFront held held' (text answers ++ line)
+  pub wrote : AppendsFront held held' (answers_text answers ++ line)
 
 -- the input holds a QUIT, or ends between requests
 abbrev pub IsComplete : Bytes → Type 0

@@ -3,7 +3,6 @@
 
 mod desk;
 mod laws;
-mod planner;
 mod run;
 mod store;
 mod top;

@@ -6,11 +6,11 @@ ghost use Rattle.redis_model.specs.Machine.{State};
 ghost use Rattle.lives_model.specs.Plans.{AreAsked};
 ghost use Rattle.log_store.specs.Keeping.{KeptState, IsKept, StandsFor, log_file};
 ghost use Rattle.log_store.specs.Playing.{batches, IsBeforeOrAfter, IsBodyOfPlan, IsSized, IsUnchanged, PlayFails, Plays};
-ghost use Rattle.kv_server.specs.Built.{IsBuilt};
+ghost use Rattle.multi_exec.specs.Built.{IsBuilt};
 
-use crate::planner::BuiltPlanner;
 use kv_outside::Files;
 use log_store::LogStore;
+use multi_exec::Redis;
 use redis_model::{Cmds, DeskFault, Reply};
 use std::alloc::Global;
 
@@ -73,6 +73,6 @@ impl<F: Files> Store<F> for LogStore<F> {
         now: u64,
         commands: &Cmds,
     ) -> Result<Reply, DeskFault> {
-        self.play(alloc, files, &BuiltPlanner, now, commands)
+        self.play(alloc, files, &Redis, now, commands)
     }
 }

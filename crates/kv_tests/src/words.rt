@@ -1,48 +1,15 @@
 //! Words that no transcript shows: of commands that are not carried out yet, and of what is no data command.
 //! A case is a line, whose words are parted by one space, and what is wanted of it.
 
-ghost use Rattle.std.specs.Prelude.{◌≡◌, length, IfSome};
-ghost use Rattle.cmd_words.specs.Words.{AreRequestWords};
-
 use cmd_words::{Parsed, parse};
-use kv_base::{Blob, Blobs};
 use redis_model::Upkeep;
 use std::alloc::Global;
 use std::test::Fail;
-
-fn length_of(word: &Blob) -> usize
-    ensures { result ≡ length word.now }
-{
-    word.bytes().len()
-}
-
-/// The words, where they are within the limits of the wire.
-fn request_of(words: Blobs) -> Option<Blobs>
-    ensures { IfSome result (λ words. AreRequestWords words) }
-{
-    if words.is_empty() || words.len() > 65536 {
-        return None;
-    }
-    let mut weight: u64 = 0;
-    for word in words.as_slice() {
-        let length = length_of(word);
-        if length > 1048576 {
-            return None;
-        }
-        weight += length as u64 + 16;
-        if weight > 16777216 {
-            return None;
-        }
-    }
-    Some(words)
-}
+use test_requests::{request_of, words_of};
 
 /// What the words of the line are read into, in a word.
 fn outcome_of(alloc: Global, line: &str) -> Result<&'static str, Fail> {
-    let mut words = Blobs::new(alloc);
-    for word in line.split(' ') {
-        words.push(Blob::copy(alloc, word.as_bytes())?)?;
-    }
+    let words = words_of(alloc, line)?;
     let words = request_of(words).ok_or("words over the limits")?;
     let parsed = parse(alloc, words).ok().ok_or("a fault")?;
     let outcome = name_of(&parsed);
@@ -68,13 +35,7 @@ fn name_of(parsed: &Parsed) -> &'static str {
 }
 
 /// Commands that are not carried out yet: with the fewest words that each takes, and with its options.
-const DATA: &str =
-    "HSET k f v, HSET k f v g w, HSETNX k f v, HGET k f, HMGET k f g, HDEL k f g, HLEN k, \
-    HEXISTS k f, HSTRLEN k f, HGETALL k, HKEYS k, HVALS k, HINCRBY k f 1, LPUSH k v w, RPUSH k v, \
-    LPUSHX k v, RPUSHX k v, LPOP k, RPOP k, LLEN k, LINDEX k -1, LSET k 0 v, LRANGE k 0 -1, LTRIM k 0 -1, \
-    RPOPLPUSH k l, LMOVE k l LEFT right, SADD k m n, SREM k m, SISMEMBER k m, SMISMEMBER k m, SCARD k, \
-    SMEMBERS k, SMOVE k l m, SINTER k l, SUNION k, SDIFF k, SINTERSTORE k l, SUNIONSTORE k l m, \
-    SDIFFSTORE k l, ZADD k 1 m -2.0 n, ZADD k NX 1 m, ZADD k nx nx ch 1 m 2 n, ZADD k xx incr 1 m, \
+const DATA: &str = "ZADD k 1 m -2.0 n, ZADD k NX 1 m, ZADD k nx nx ch 1 m 2 n, ZADD k xx incr 1 m, \
     ZADD k 1 nx, ZREM k m n, ZSCORE k m, ZCARD k, ZCOUNT k -inf +INF, ZRANK k m, ZREVRANK k m, \
     ZRANGE k 0 -1, ZRANGE k 0 1 WITHSCORES, ZREVRANGE k 0 1 withscores, ZRANGEBYSCORE k (1 2, \
     ZRANGEBYSCORE k 0 1 WITHSCORES, ZRANGEBYSCORE k 0 1 LIMIT 0 -1, \

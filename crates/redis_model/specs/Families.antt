@@ -1,5 +1,5 @@
--- The commands without keys, those on strings and those on keys of any type, in groups.
-use Rattle.std.specs.Prelude.{Bool, true, false}
+-- The commands without keys, those on strings, on keys of any type, on hashes, lists and sets, in groups.
+use Rattle.std.specs.Prelude.{Bool, true, false, ◌||◌}
 use Rattle.redis_model.specs.declared.command.Command.{Command}
 use Rattle.redis_model.specs.declared.command.Command.TheVariants as cmd
 
@@ -55,3 +55,86 @@ changes_keys (cmd.ExpireAt k x w) = true
 changes_keys (cmd.PExpireAt k x w) = true
 changes_keys (cmd.Persist k w) = true
 changes_keys _ = false
+
+-- those that read hashes
+abbrev pub reads_hashes : Command → Bool
+reads_hashes (cmd.HGet k f w) = true
+reads_hashes (cmd.HMGet k fs w) = true
+reads_hashes (cmd.HLen k w) = true
+reads_hashes (cmd.HExists k f w) = true
+reads_hashes (cmd.HStrLen k f w) = true
+reads_hashes (cmd.HGetAll k w) = true
+reads_hashes (cmd.HKeys k w) = true
+reads_hashes (cmd.HVals k w) = true
+reads_hashes _ = false
+
+-- those that change them
+abbrev pub changes_hashes : Command → Bool
+changes_hashes (cmd.HSet k fs vs w) = true
+changes_hashes (cmd.HSetNx k f v w) = true
+changes_hashes (cmd.HDel k fs w) = true
+changes_hashes (cmd.HIncrBy k f n w) = true
+changes_hashes _ = false
+
+abbrev pub is_hash_command : Command → Bool
+is_hash_command c = reads_hashes c || changes_hashes c
+
+-- those that read lists
+abbrev pub reads_lists : Command → Bool
+reads_lists (cmd.LLen k w) = true
+reads_lists (cmd.LIndex k i w) = true
+reads_lists (cmd.LRange k a b w) = true
+reads_lists _ = false
+
+-- those that change one list
+abbrev pub changes_lists : Command → Bool
+changes_lists (cmd.LPush k vs w) = true
+changes_lists (cmd.RPush k vs w) = true
+changes_lists (cmd.LPushX k vs w) = true
+changes_lists (cmd.RPushX k vs w) = true
+changes_lists (cmd.LPop k w) = true
+changes_lists (cmd.RPop k w) = true
+changes_lists (cmd.LSet k i v w) = true
+changes_lists (cmd.LTrim k a b w) = true
+changes_lists _ = false
+
+-- those that move an item from one list to another
+abbrev pub moves_items : Command → Bool
+moves_items (cmd.RPopLPush a b w) = true
+moves_items (cmd.LMove a b from to w) = true
+moves_items _ = false
+
+abbrev pub is_list_command : Command → Bool
+is_list_command c = reads_lists c || (changes_lists c || moves_items c)
+
+-- those that read one set
+abbrev pub reads_sets : Command → Bool
+reads_sets (cmd.SIsMember k x w) = true
+reads_sets (cmd.SMIsMember k xs w) = true
+reads_sets (cmd.SCard k w) = true
+reads_sets (cmd.SMembers k w) = true
+reads_sets _ = false
+
+-- those that change sets by members that they name
+abbrev pub changes_sets : Command → Bool
+changes_sets (cmd.SAdd k xs w) = true
+changes_sets (cmd.SRem k xs w) = true
+changes_sets (cmd.SMove a b x w) = true
+changes_sets _ = false
+
+-- those that combine sets and answer the members
+abbrev pub combines_sets : Command → Bool
+combines_sets (cmd.SInter ks w) = true
+combines_sets (cmd.SUnion ks w) = true
+combines_sets (cmd.SDiff ks w) = true
+combines_sets _ = false
+
+-- those that combine sets and store the members
+abbrev pub stores_sets : Command → Bool
+stores_sets (cmd.SInterStore d ks w) = true
+stores_sets (cmd.SUnionStore d ks w) = true
+stores_sets (cmd.SDiffStore d ks w) = true
+stores_sets _ = false
+
+abbrev pub is_set_command : Command → Bool
+is_set_command c = reads_sets c || (changes_sets c || (combines_sets c || stores_sets c))

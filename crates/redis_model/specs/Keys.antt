@@ -58,16 +58,16 @@ left t None = negsuc 1
 left t (Some e) = left_until t e.deadline
 
 -- to the nearest second, as Redis rounds
-abbrev pub seconds : ℤ → ℤ
-seconds (pos n) = pos ((n + 500) / 1000)
-seconds (negsuc n) = negsuc n
+abbrev pub rounded_seconds : ℤ → ℤ
+rounded_seconds (pos n) = pos ((n + 500) / 1000)
+rounded_seconds (negsuc n) = negsuc n
 
 -- PTTL and TTL (Redis command reference)
 abbrev pub p_ttl : RedisMap → ℕ → Bytes → Outcome (Reply × RedisMap)
 p_ttl m t k = Ok (reply.Int (left t (get m k)), m)
 
 abbrev pub ttl : RedisMap → ℕ → Bytes → Outcome (Reply × RedisMap)
-ttl m t k = Ok (reply.Int (seconds (left t (get m k))), m)
+ttl m t k = Ok (reply.Int (rounded_seconds (left t (get m k))), m)
 
 -- PERSIST (Redis command reference): 1 where a deadline goes, else 0
 abbrev pub persist_entry : RedisMap → Bytes → Option Entry → Outcome (Reply × RedisMap)

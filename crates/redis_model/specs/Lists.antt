@@ -28,16 +28,16 @@ abbrev pub push_x : RedisMap → Bytes → End → List Bytes → Outcome (Reply
 push_x m k end vs = if has m k then push m k end vs else Ok (number 0, m)
 
 -- the first item, and the last one
-abbrev pub first : List Bytes → Option Bytes
-first l = slice_get l 0
+abbrev pub first_item : List Bytes → Option Bytes
+first_item l = slice_get l 0
 
-abbrev pub last : List Bytes → Option Bytes
-last l = slice_get l (length l - 1)
+abbrev pub last_item : List Bytes → Option Bytes
+last_item l = slice_get l (length l - 1)
 
 -- the item at an end, and what is left
 abbrev pub popped : End → List Bytes → Option Bytes × List Bytes
-popped Left l = (first l, drop 1 l)
-popped Right l = (last l, take (length l - 1) l)
+popped Left l = (first_item l, drop 1 l)
+popped Right l = (last_item l, take (length l - 1) l)
 
 -- LPOP and RPOP (Redis command reference): the item, or null
 abbrev pub pop_item : End → List Bytes → Outcome (Reply × List Bytes)

@@ -5,6 +5,7 @@ use Rattle.std.specs.declared.cmp.Ordering.{Ordering}
 use Rattle.std.specs.Option.{option_map_or}
 use Rattle.std.specs.Ordering.{ordering_then, int_cmp, int_eq, is_lt}
 use Rattle.kv_base.specs.Map.{Bytes, Map, get, has, insert, keep, size, byte_cmp}
+use Rattle.kv_base.specs.MetaValues.{is_score}
 use Rattle.redis_model.specs.declared.reply.Reply.{Reply}
 use Rattle.redis_model.specs.declared.reply.Reply.TheVariants as reply
 use Rattle.redis_model.specs.declared.reply.ReplyError.TheVariants.{ScoreRange}
@@ -32,13 +33,13 @@ abbrev pub in_place : Scored → List Scored → List Scored
 in_place e [] = e ∷ []
 in_place e (f ∷ fs) = if is_lt (rank_cmp e f) then e ∷ f ∷ fs else f ∷ in_place e fs
 
-abbrev pub in_order : List Scored → List Scored
-in_order [] = []
-in_order (e ∷ es) = in_place e (in_order es)
+abbrev pub ascending : List Scored → List Scored
+ascending [] = []
+ascending (e ∷ es) = in_place e (ascending es)
 
 -- the members by rank
 abbrev pub ranked : Map ℤ → List Scored
-ranked z = in_order z.entries
+ranked z = ascending z.entries
 
 -- members, each followed by its score where that is asked
 abbrev pub told : Bool → List Scored → Reply
@@ -48,9 +49,6 @@ told true es = reply.Array (flat_map (λ e. reply.Bulk e.0 ∷ score_bulk e.1 �
 -- scores run from -2^53 to 2^53 (this server's own)
 abbrev pub max_score : ℕ
 max_score = 2 ^ 53
-
-abbrev pub is_score : ℤ → Bool
-is_score s = int_le (negsuc (max_score - 1)) s && int_le s (pos max_score)
 
 -- ---- ZADD and ZINCRBY
 
@@ -188,14 +186,14 @@ abbrev pub from_offset : ℤ → List Scored → List Scored
 from_offset (pos n) es = drop n es
 from_offset (negsuc n) es = []
 
-abbrev pub limited : Option Limit → List Scored → List Scored
-limited None es = es
-limited (Some l) es = first_of l.count (from_offset l.offset es)
+abbrev pub within_limit : Option Limit → List Scored → List Scored
+within_limit None es = es
+within_limit (Some l) es = first_of l.count (from_offset l.offset es)
 
 -- ZRANGEBYSCORE (Redis command reference): the members between two bounds, lowest first
 abbrev pub z_range_by_score : RedisMap → Bytes → Bound → Bound → Bool → Option Limit → Outcome (Reply × RedisMap)
 z_range_by_score m k low high scores limit =
-    reading sorted_sets m k (λ z. told scores (limited limit (filter (between low high) (ranked z))))
+    reading sorted_sets m k (λ z. told scores (within_limit limit (filter (between low high) (ranked z))))
 
 -- ZREMRANGEBYRANK and ZREMRANGEBYSCORE (Redis command reference): the number of members that go
 abbrev pub remove_ranks : ℤ → ℤ → Map ℤ → Outcome (Reply × Map ℤ)

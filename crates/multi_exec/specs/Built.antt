@@ -1,4 +1,4 @@
--- Which commands the store of the server carries out by now.
+-- Which commands are planned by now.
 use Rattle.std.specs.Prelude.{IsTrue}
 use Rattle.redis_model.specs.declared.command.Cmds.{Cmds}
 use Rattle.redis_model.specs.declared.command.Cmds.TheVariants.{One, Many}

@@ -1,3 +1,5 @@
+//! Which crate plans which command.
+
 ghost use Rattle.std.specs.Prelude.{◌≤◌, IfOk, IfSome, IsTrue};
 ghost use Rattle.redis_model.specs.declared.command.Cmds.TheVariants.{One};
 ghost use Rattle.redis_model.specs.Built.{built};
@@ -6,41 +8,24 @@ ghost use Rattle.redis_model.specs.Limits.{IsWithin};
 ghost use Rattle.lives_model.specs.Plans.{IsPlanned};
 ghost use Rattle.lives_model.specs.Views.{ReadsView};
 
+use hash_cmds::plan_hash;
 use kv_base::StoreFault;
-use lives_model::{Plan, Planner, RawView};
-use redis_model::{Cmds, Command};
+use list_cmds::plan_list;
+use lives_model::{Plan, RawView};
+use redis_model::Command;
+use set_cmds::plan_set;
 use std::alloc::Global;
 use string_cmds::{plan_no_keys, plan_string};
 
-/// How many versions a sequence issues.
+/// How many versions a sequence issues, one for each command of a transaction.
 const VERSIONS: u64 = 2048;
 
-/// Plans the commands that are carried out by now, one at a time.
-#[derive(Clone, Copy, Drop)]
-pub struct BuiltPlanner;
-
-impl Planner for BuiltPlanner {
-    ghost use Rattle.kv_server.specs.Built.{IsBuilt};
-
-    ghost plans = { IsBuilt };
-
-    fn plan<V: RawView>(
-        &self,
-        alloc: Global,
-        view: &mut V,
-        moment: u64,
-        base: u64,
-        commands: &Cmds,
-    ) -> Result<Plan, StoreFault> {
-        match commands {
-            Cmds::One(command) => plan_one(alloc, view, moment, base, command),
-            Cmds::Many(_) => unreachable!(),
-        }
-    }
-}
-
-/// The plan of one command. It starts no life, so it uses no version.
-fn plan_one<V: RawView>(
+/// The plan of one command, at a moment in milliseconds, on rows up to the sequence `base`. A life that it starts has a
+/// version above all of theirs.
+///
+/// The fault is one of the view, or want of memory. It leaves the view's rows as they are, as does an answer.
+#[tactic(auto, using(crate::proofs::Planning::version_fits, crate::proofs::Planning::is_on_strings))]
+pub fn plan<V: RawView>(
     alloc: Global,
     view: &mut V,
     moment: u64,
@@ -57,5 +42,15 @@ fn plan_one<V: RawView>(
     if command.is_keyless() {
         return Ok(plan_no_keys(alloc, command)?);
     }
-    plan_string(alloc, view, moment, (base + 1) * VERSIONS, command)
+    let version = (base + 1) * VERSIONS;
+    if command.is_on_hashes() {
+        return plan_hash(alloc, view, moment, version, command);
+    }
+    if command.is_on_lists() {
+        return plan_list(alloc, view, moment, version, command);
+    }
+    if command.is_on_sets() {
+        return plan_set(alloc, view, moment, version, command);
+    }
+    plan_string(alloc, view, moment, version, command)
 }

@@ -2,7 +2,7 @@ use Rattle.std.proofs.Common.{◌≡◌, ◌≤◌, take}
 use Rattle.std.specs.Prelude.{All}
 use Rattle.redis_model.specs.Limits.{IsShort, max_weight}
 use Rattle.cmd_words.specs.Words.{weight_of}
-use Rattle.kv_tests.proofs.words.request_of.Given as goal
+use Rattle.test_requests.proofs.line.request_of.Given as goal
 
 abbrev pub invariant-loop-word : goal.invariant-loop-word
 invariant-loop-word l = record {

@@ -3,7 +3,7 @@ use Rattle.std.proofs.lemmas.List.Elements.{All-more}
 use Rattle.std.proofs.lemmas.List.Sums.{sum_by_more}
 use Rattle.kv_base.specs.Map.{Bytes}
 use Rattle.redis_model.specs.Limits.{IsShort}
-use Rattle.kv_tests.proofs.words.request_of.Goals as goal
+use Rattle.test_requests.proofs.line.request_of.Goals as goal
 
 pub loop-word-preserved : goal.loop-word-preserved
 loop-word-preserved c =
