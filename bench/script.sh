@@ -2,7 +2,7 @@
 # Measures `kvr script`: the time, requests a second and peak memory of inputs that write nothing, beside the time that
 # `cat` takes for the same bytes; a body that arrives a byte at a time; then commands that write, which are on the disk
 # before they are answered, beside a loop that writes and syncs as many bytes, with the system calls of a command; then
-# one command with as many keys as a request has room for; then the opening of a log. Each is also run at half of its
+# one command with as many keys, fields or members as a request has room for; then the opening of a log. Each is also run at half of its
 # size, and most at a quarter, to show that nothing grows faster than its input.
 #
 #     bench/script.sh
@@ -64,6 +64,30 @@ elif kind == "one_del":
 elif kind == "one_mset":
     # so many keys in one command, out of order
     out.write(request(b"MSET", *[word for i in range(count) for word in (b"key:%d" % (i * 7919 % count), b"v")]))
+elif kind == "hsets":
+    for i in range(count):
+        out.write(request(b"HSET", b"cart:%d" % (i * 7919 % 100), b"sku%d" % (i * 7919 % 1000), b"%d" % i))
+elif kind == "pushes":
+    for i in range(count):
+        out.write(request(b"RPUSH", b"queue", b"job:%d" % i))
+elif kind == "pops":
+    out.write(request(b"LPOP", b"queue") * count)
+elif kind == "sadds":
+    for i in range(count):
+        out.write(request(b"SADD", b"tags:%d" % (i * 7919 % 100), b"m%d" % i))
+elif kind == "one_hset":
+    # so many fields of one hash in one command, out of order
+    out.write(request(b"HSET", b"h", *[word for i in range(count) for word in (b"f%d" % (i * 7919 % count), b"v")]))
+elif kind == "one_sadd":
+    # so many members of one set
+    out.write(request(b"SADD", b"s", *[b"m%d" % (i * 7919 % count) for i in range(count)]))
+elif kind == "two_sets":
+    # the sets of `one_store`, of which each has half of the members, and a third of these in both
+    half = count // 2
+    out.write(request(b"SADD", b"s", *[b"m%d" % i for i in range(half)]))
+    out.write(request(b"SADD", b"t", *[b"m%d" % (i + 2 * half // 3) for i in range(half)]))
+elif kind == "one_store":
+    out.write(request(b"SUNIONSTORE", b"u", b"s", b"t"))
 elif kind == "empty":
     # one request of `count` words of nothing: an unknown command
     out.write(request(*[b""] * count))
@@ -250,6 +274,10 @@ durable "durable SETs with a deadline" expiring 1000
 durable "durable INCRs" incrs 1000
 durable "durable MSETs of 10 keys" msets 1000
 durable "durable DELs" dels 1000 filling
+durable "durable HSETs of one field" hsets 1000
+durable "durable RPUSHs" pushes 1000
+durable "durable LPOPs" pops 1000 pushes
+durable "durable SADDs" sadds 1000
 
 # many NAME KIND COUNT HALF [BEFORE]: one command with so many keys, and one with half as many. Each is the best of five
 # sessions, from the command's first byte to its answer. Requests of the kind BEFORE are carried out in front of it.
@@ -307,6 +335,9 @@ PYTHON
 
 many "one DEL" one_del 65535 32767 filling
 many "one MSET" one_mset 32767 16383
+many "one HSET" one_hset 32767 16383
+many "one SADD" one_sadd 65534 32767
+many "one SUNIONSTORE of half as many each" one_store 65534 32767 two_sets
 
 # opening COUNT: a log of so many small SETs is opened, and nothing asked
 opening() {
