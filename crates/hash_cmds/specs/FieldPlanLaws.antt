@@ -3,7 +3,7 @@ use Rattle.std.proofs.Common.{ℕ, ◌≡◌, ◌+◌, ◌-◌, zero, suc, refl,
 use Rattle.std.proofs.lemmas.Bool.Decides.{nat_tests}
 use Rattle.std.proofs.lemmas.List.Sums.{sum_by-cons}
 use Rattle.std.specs.Prelude.{◌<◌, ◌^◌, ◌==◌, nat_lt, not, Option, Some, None, Ok, Err, IsTrue, is_some, ℤ}
-use Rattle.kv_base.specs.Map.{Bytes, Map, same, same_is, same_itself, kept, get, has, empty, insert, keep, size, get-empty, get-insert, get-keep, same_map}
+use Rattle.kv_base.specs.Map.{Bytes, Map, same, same_is, kept, get, has, empty, insert, keep, size, get-empty, get-insert, get-keep, same_map}
 use Rattle.kv_base.specs.Number.{int_text}
 use Rattle.kv_base.specs.RawKeys.{is_key}
 use Rattle.kv_base.specs.declared.kind.Kind.TheVariants as code
@@ -23,6 +23,7 @@ use Rattle.lives_model.specs.Clean.{live_at}
 use Rattle.lives_model.specs.Moved.{head_after}
 use Rattle.lives_model.specs.OwnKeyLaws.{no_size}
 use Rattle.lives_model.specs.Plans.{same_row}
+use Rattle.plan_base.specs.KeyLimitLaws.{key_is_short, among_itself}
 use Rattle.plan_base.specs.Carries.{Carries}
 use Rattle.plan_base.specs.declared.life.LifeSight.{LifeSight}
 use Rattle.plan_base.specs.Seen.{deadline_in}
@@ -39,8 +40,8 @@ use Rattle.life_plans.specs.WantedLaws.{wants_put}
 use Rattle.life_plans.specs.Changes.{FindsLife, WantsElements, Wants, wishing_plan}
 use Rattle.life_plans.specs.ElementLaws.{hash_has_elements}
 use Rattle.life_plans.specs.AlikePlanLaws.{changes_alike}
-use Rattle.hash_cmds.specs.Planned.{field_rows, one_more, putting_field, adding_field, h_set_nx_plan, raising, raising_by, h_incr_by_plan}
-use Rattle.hash_cmds.specs.FieldsPlanLaws.{key_is_short, among_itself, insert_some}
+use Rattle.hash_cmds.specs.Planned.{field_rows, more_fields, putting_field, adding_field, h_set_nx_plan, raising, raising_by, h_incr_by_plan}
+use Rattle.hash_cmds.specs.FieldsPlanLaws.{insert_some}
 
 -- ---- one field that is put
 
@@ -65,7 +66,7 @@ one_differs c k version f v = same_map _ _ (λ q.
     by_tests q false false is there = sym (get-insert empty (row_key Elements k version f) (Some v) q ∙ ap (λ s. cond s (Some (Some v)) (get empty q)) is ∙ get-empty q)
 
 -- how many it adds, and that it takes none away
-one_added : (c : Rows) (k : Bytes) (version : ℕ) (f v : Bytes) → added_rows c (wanted k version (puts ((f, v) ∷ []))) ≡ one_more (get c (row_key Elements k version f))
+one_added : (c : Rows) (k : Bytes) (version : ℕ) (f v : Bytes) → added_rows c (wanted k version (puts ((f, v) ∷ []))) ≡ more_fields (get c (row_key Elements k version f))
 unfolding wanted added_rows insert empty
 one_added c k version f v = sum_by-cons (λ e. cond (adds_row c e) 1 0) (row_key Elements k version f, Some v) [] ∙ by_row (get c (row_key Elements k version f))
   where
@@ -92,8 +93,8 @@ module _ (c : Rows) (t fresh : ℕ) (k f : Bytes) (found : Option LifeSight) (h 
   putting_is old again v answer =
       let rows : field_rows k (life_on fresh found).version f (row_in_life c k found f) v ≡ differing c (wanted k (life_on fresh found).version (puts ((f, v) ∷ []))) =
       sym (one_differs c k (life_on fresh found).version f v ∙ ap (λ o. field_rows k (life_on fresh found).version f o v) row_is) in
-      let more : one_more (row_in_life c k found f) ≡ added_rows c (wanted k (life_on fresh found).version (puts ((f, v) ∷ []))) =
-      sym (one_added c k (life_on fresh found).version f v ∙ ap one_more row_is) in
+      let more : more_fields (row_in_life c k found f) ≡ added_rows c (wanted k (life_on fresh found).version (puts ((f, v) ∷ []))) =
+      sym (one_added c k (life_on fresh found).version f v ∙ ap more_fields row_is) in
       let none : 0 ≡ removed_rows c (wanted k (life_on fresh found).version (puts ((f, v) ∷ []))) = sym (one_removed c k (life_on fresh found).version f v) in
       λ i. changing_plan t k code.Hash old fresh found again (rows i) (size_after found (more i) (none i)) answer
 

@@ -1,7 +1,6 @@
 -- The plans of HSET and HDEL.
 use Rattle.std.proofs.Common.{ℕ, ◌≡◌, ◌<◌, ◌-◌, zero, suc, refl, sym, ap, subst, ◌∙◌, Bool, true, false, cond, List, [], ◌∷◌, length, arith}
-use Rattle.std.proofs.lemmas.List.Elements.{All-head}
-use Rattle.std.specs.Prelude.{◌||◌, not, Option, Some, None, Ok, IsTrue, All, zip, fold, is_some}
+use Rattle.std.specs.Prelude.{not, Option, Some, None, Ok, IsTrue, zip, fold, is_some}
 use Rattle.kv_base.specs.Map.{Bytes, Map, get, empty, insert, insert_all, keep, size, same_itself, get-insert, get-empty, get-keep, kept}
 use Rattle.kv_base.specs.RawKeys.{is_key}
 use Rattle.kv_base.specs.declared.kind.Kind.TheVariants as code
@@ -13,7 +12,7 @@ use Rattle.redis_model.specs.Value.{RedisMap}
 use Rattle.redis_model.specs.Outcome.{Outcome, number, hashes}
 use Rattle.redis_model.specs.Hashes.{set_fields, remove_fields}
 use Rattle.redis_model.specs.Keys.{among}
-use Rattle.redis_model.specs.Limits.{IsWithin, IsName}
+use Rattle.redis_model.specs.Limits.{IsWithin}
 use Rattle.redis_model.specs.Apply.{carried_out}
 use Rattle.redis_model.specs.Touched.{written_again}
 use Rattle.lives_model.specs.Rows.{Rows}
@@ -23,7 +22,7 @@ use Rattle.lives_model.specs.OwnKeyLaws.{no_size, empty_is}
 use Rattle.plan_base.specs.Carries.{Carries}
 use Rattle.plan_base.specs.declared.life.LifeSight.{LifeSight}
 use Rattle.plan_base.specs.Seen.{deadline_in}
-use Rattle.plan_base.specs.KeyLimitLaws.{name_is_key}
+use Rattle.plan_base.specs.KeyLimitLaws.{key_is_short, among_itself}
 use Rattle.plan_base.specs.Retimed.{KeepsLife}
 use Rattle.plan_base.specs.Lives.{HasSizeIn, life_size}
 use Rattle.plan_base.specs.LifeLaws.{hash_stands, size_there}
@@ -37,17 +36,7 @@ use Rattle.life_plans.specs.ChangeSizeLaws.{size_is}
 use Rattle.life_plans.specs.ElementLaws.{hash_has_elements}
 use Rattle.life_plans.specs.ChangePlanLaws.{life_changing}
 use Rattle.life_plans.specs.AlikePlanLaws.{changes_alike}
-use Rattle.hash_cmds.specs.Planned.{setting, h_set_plan, deleting, h_del_plan}
-
--- ---- keys and sizes
-
--- the key of a command with one key fits
-pub key_is_short : (k : Bytes) → All IsName (k ∷ []) → IsTrue (is_key k)
-key_is_short k names = name_is_key k (All-head IsName k [] names)
-
--- a key is among itself
-pub among_itself : (k : Bytes) → IsTrue (among (k ∷ []) k)
-among_itself k = ap (λ b. b || false) (same_itself k)
+use Rattle.hash_cmds.specs.Planned.{setting_fields, h_set_plan, deleting_fields, h_del_plan}
 
 -- a hash with a field is not empty
 pub insert_some : (h : Map Bytes) (f v : Bytes) → 0 < size (insert h f v)
@@ -118,7 +107,7 @@ del_wish c fresh k fs found =
 pub h_del_carries : (c : Rows) (t fresh : ℕ) (k : Bytes) (fs : List Bytes) (w : ℕ) → IsWithin (cmd.HDel k fs w) → Carries c t fresh (cmd.HDel k fs w) (h_del_plan c t fresh k fs)
 unfolding carried_out h_del_plan del_wish changing_plan
 h_del_carries c t fresh k fs w within =
-    changes_alike hash_stands hash_has_elements c t fresh (cmd.HDel k fs w) k false (del_wish c fresh k fs) (remove_fields fs) (deleting c t fresh k fs (deadline_in (live_at c t k))) refl short
+    changes_alike hash_stands hash_has_elements c t fresh (cmd.HDel k fs w) k false (del_wish c fresh k fs) (remove_fields fs) (deleting_fields c t fresh k fs (deadline_in (live_at c t k))) refl short
     (λ m. keeps_del m k fs w) (λ m. refl) (λ m n. refl) wants alike
   where
     short : IsTrue (is_key k)
@@ -151,7 +140,7 @@ h_del_carries c t fresh k fs w within =
     none_left h is = (no_size (left h)).1 (empty_is (left h) (λ q. get-keep (λ f _. not (among fs f)) h q ∙ ap (kept (λ _. not (among fs q))) (ap (λ (m : Map Bytes). get m q) is ∙ get-empty q)))
 
     alike : (found : Option LifeSight) (h : Map Bytes) → HasSizeIn found → FindsLife hashes get c k fresh found h
-        → deleting c t fresh k fs (deadline_in (live_at c t k)) found ≡ wishing_plan c t k code.Hash (deadline_in (live_at c t k)) fresh false found (del_wish c fresh k fs found)
+        → deleting_fields c t fresh k fs (deadline_in (live_at c t k)) found ≡ wishing_plan c t k code.Hash (deadline_in (live_at c t k)) fresh false found (del_wish c fresh k fs found)
     alike None h fits finds =
         let rows = wanted k fresh (leaves fs) in
         let none : size_after None (added_rows c rows) (removed_rows c rows) ≡ 0 = sym (size_left None h finds) ∙ none_left h finds.life in

@@ -29,16 +29,16 @@ abbrev pub hash_reading : Rows → ℕ → Bytes → (Option LifeSight → Reply
 hash_reading c t k answer = answering t (deadline_in (live_at c t k)) (life_reply answer (life_found code.Hash (live_at c t k)))
 
 -- the value of a field in a life, or null
-abbrev pub value_shown : Rows → Bytes → Option LifeSight → Bytes → Reply
-value_shown c k found f = bulk_or_null (row_in_life c k found f)
+abbrev pub value_of_field : Rows → Bytes → Option LifeSight → Bytes → Reply
+value_of_field c k found f = bulk_or_null (row_in_life c k found f)
 
 -- HGET
 unfoldable pub h_get_plan : Rows → ℕ → Bytes → Bytes → Plan
-h_get_plan c t k f = hash_reading c t k (λ found. value_shown c k found f)
+h_get_plan c t k f = hash_reading c t k (λ found. value_of_field c k found f)
 
 -- HMGET: for each field its value, or null
 unfoldable pub h_m_get_plan : Rows → ℕ → Bytes → List Bytes → Plan
-h_m_get_plan c t k fs = hash_reading c t k (λ found. reply.Array (map (value_shown c k found) fs))
+h_m_get_plan c t k fs = hash_reading c t k (λ found. reply.Array (map (value_of_field c k found) fs))
 
 -- HLEN
 unfoldable pub h_len_plan : Rows → ℕ → Bytes → Plan
@@ -59,25 +59,25 @@ abbrev pub hash_changing : Rows → ℕ → Bytes → (Option ℕ → Option Lif
 hash_changing c t k plan = by_life t (deadline_in (live_at c t k)) (plan (deadline_in (live_at c t k))) (life_found code.Hash (live_at c t k))
 
 -- by the rows that it wants; the answer is told by the number of fields afterwards
-abbrev pub wanting : Rows → ℕ → ℕ → Bytes → Option ℕ → Bool → Option LifeSight → Batch → (ℕ → Reply) → Plan
-wanting c t fresh k old again found rows answer =
+abbrev pub changing_fields : Rows → ℕ → ℕ → Bytes → Option ℕ → Bool → Option LifeSight → Batch → (ℕ → Reply) → Plan
+changing_fields c t fresh k old again found rows answer =
     let count = size_after found (added_rows c rows) (removed_rows c rows) in
     changing_plan t k code.Hash old fresh found again (differing c rows) count (answer count)
 
 -- HSET: of a field that comes twice the last value; the key is written again also where nothing differs
-abbrev pub setting : Rows → ℕ → ℕ → Bytes → List Bytes → List Bytes → Option ℕ → Option LifeSight → Plan
-setting c t fresh k fs vs old found = wanting c t fresh k old true found (wanted k (life_on fresh found).version (puts (zip fs vs))) (λ count. number (count - life_size found))
+abbrev pub setting_fields : Rows → ℕ → ℕ → Bytes → List Bytes → List Bytes → Option ℕ → Option LifeSight → Plan
+setting_fields c t fresh k fs vs old found = changing_fields c t fresh k old true found (wanted k (life_on fresh found).version (puts (zip fs vs))) (λ count. number (count - life_size found))
 
 unfoldable pub h_set_plan : Rows → ℕ → ℕ → Bytes → List Bytes → List Bytes → Plan
-h_set_plan c t fresh k fs vs = hash_changing c t k (setting c t fresh k fs vs)
+h_set_plan c t fresh k fs vs = hash_changing c t k (setting_fields c t fresh k fs vs)
 
 -- HDEL: where there is no key nothing is looked up
-abbrev pub deleting : Rows → ℕ → ℕ → Bytes → List Bytes → Option ℕ → Option LifeSight → Plan
-deleting c t fresh k fs old None = answering t old (number 0)
-deleting c t fresh k fs old (Some life) = wanting c t fresh k old false (Some life) (wanted k life.version (leaves fs)) (λ count. number (life.size - count))
+abbrev pub deleting_fields : Rows → ℕ → ℕ → Bytes → List Bytes → Option ℕ → Option LifeSight → Plan
+deleting_fields c t fresh k fs old None = answering t old (number 0)
+deleting_fields c t fresh k fs old (Some life) = changing_fields c t fresh k old false (Some life) (wanted k life.version (leaves fs)) (λ count. number (life.size - count))
 
 unfoldable pub h_del_plan : Rows → ℕ → ℕ → Bytes → List Bytes → Plan
-h_del_plan c t fresh k fs = hash_changing c t k (deleting c t fresh k fs)
+h_del_plan c t fresh k fs = hash_changing c t k (deleting_fields c t fresh k fs)
 
 -- ---- one field, at which this value was found
 
@@ -86,13 +86,13 @@ abbrev pub field_rows : Bytes → ℕ → Bytes → Option Bytes → Bytes → B
 field_rows k version f there v = if same_row there (Some v) then empty else wanted k version (puts ((f, v) ∷ []))
 
 -- how many fields more there are with it
-abbrev pub one_more : Option Bytes → ℕ
-one_more there = if is_some there then 0 else 1
+abbrev pub more_fields : Option Bytes → ℕ
+more_fields there = if is_some there then 0 else 1
 
 -- it gets a value
 abbrev pub putting_field : ℕ → ℕ → Bytes → Option ℕ → Bool → Option LifeSight → Bytes → Option Bytes → Bytes → Reply → Plan
 putting_field t fresh k old again found f there v answer =
-    changing_plan t k code.Hash old fresh found again (field_rows k (life_on fresh found).version f there v) (size_after found (one_more there) 0) answer
+    changing_plan t k code.Hash old fresh found again (field_rows k (life_on fresh found).version f there v) (size_after found (more_fields there) 0) answer
 
 -- HSETNX: nothing is written where the field is there
 abbrev pub adding_field : ℕ → ℕ → Bytes → Bytes → Bytes → Option ℕ → Option LifeSight → Option Bytes → Plan

@@ -11,18 +11,18 @@ use Rattle.plan_base.specs.Carries.{Carries}
 use Rattle.plan_base.specs.Lives.{life_size, row_in_life}
 use Rattle.plan_base.specs.LifeLaws.{hash_stands, element_there, size_there}
 use Rattle.plan_base.specs.LifePlanLaws.{life_reading}
-use Rattle.hash_cmds.specs.Planned.{value_shown, h_get_plan, h_m_get_plan, h_len_plan, h_exists_plan, h_str_len_plan}
+use Rattle.hash_cmds.specs.Planned.{value_of_field, h_get_plan, h_m_get_plan, h_len_plan, h_exists_plan, h_str_len_plan}
 
 pub h_get_carries : (c : Rows) (t fresh : ℕ) (k f : Bytes) (w : ℕ) → Carries c t fresh (cmd.HGet k f w) (h_get_plan c t k f)
 unfolding carried_out h_get_plan
 h_get_carries c t fresh k f w =
-    life_reading hash_stands c t fresh (cmd.HGet k f w) k (λ h. bulk_or_null (get h f)) (λ found. value_shown c k found f) refl refl (λ m. refl)
+    life_reading hash_stands c t fresh (cmd.HGet k f w) k (λ h. bulk_or_null (get h f)) (λ found. value_of_field c k found f) refl refl (λ m. refl)
     (λ found h s. ap bulk_or_null (element_there hash_stands c k found h f s))
 
 pub h_m_get_carries : (c : Rows) (t fresh : ℕ) (k : Bytes) (fs : List Bytes) (w : ℕ) → Carries c t fresh (cmd.HMGet k fs w) (h_m_get_plan c t k fs)
 unfolding carried_out h_m_get_plan
 h_m_get_carries c t fresh k fs w =
-    life_reading hash_stands c t fresh (cmd.HMGet k fs w) k (λ h. reply.Array (map (λ f. bulk_or_null (get h f)) fs)) (λ found. reply.Array (map (value_shown c k found) fs)) refl refl (λ m. refl)
+    life_reading hash_stands c t fresh (cmd.HMGet k fs w) k (λ h. reply.Array (map (λ f. bulk_or_null (get h f)) fs)) (λ found. reply.Array (map (value_of_field c k found) fs)) refl refl (λ m. refl)
     (λ found h s. λ i. reply.Array (map (λ f. bulk_or_null (element_there hash_stands c k found h f s i)) fs))
 
 pub h_len_carries : (c : Rows) (t fresh : ℕ) (k : Bytes) (w : ℕ) → Carries c t fresh (cmd.HLen k w) (h_len_plan c t k)

@@ -8,7 +8,7 @@ ghost use Rattle.redis_model.specs.Limits.{IsName, IsShort};
 ghost use Rattle.redis_model.specs.Strings.{added, counter};
 ghost use Rattle.redis_model.specs.declared.reply.ReplyError.TheVariants.{HashNotInt};
 ghost use Rattle.hash_cmds.specs.Found.{IsHashFound};
-ghost use Rattle.hash_cmds.specs.Planned.{h_set_nx_plan, h_incr_by_plan, adding_field, field_rows, one_more, putting_field, raising, raising_by};
+ghost use Rattle.hash_cmds.specs.Planned.{h_set_nx_plan, h_incr_by_plan, adding_field, field_rows, more_fields, putting_field, raising, raising_by};
 
 use crate::found::hash_found;
 use batch_codec::Batch;
@@ -208,7 +208,7 @@ fn putting_field(
     let rows = field_rows(alloc, key, version, field, there, value)?;
     let change = LifeChange {
         rows,
-        added: one_more(there),
+        added: more_fields(there),
         removed: 0,
     };
     changing_plan(alloc, found, again, change, reply)
@@ -245,8 +245,8 @@ fn is_same(there: &Option<Blob>, value: &[u8]) -> bool
 }
 
 /// How many fields more there are with one, at which this was found.
-fn one_more(there: &Option<Blob>) -> u64
-    ensures { result ≡ one_more there.now }
+fn more_fields(there: &Option<Blob>) -> u64
+    ensures { result ≡ more_fields there.now }
 {
     if there.is_some() { 0 } else { 1 }
 }

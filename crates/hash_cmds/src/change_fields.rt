@@ -5,7 +5,7 @@ ghost use Rattle.kv_base.specs.RawKeys.{is_version};
 ghost use Rattle.redis_model.specs.Limits.{IsName, IsShort};
 ghost use Rattle.lives_model.specs.Views.{ReadsView};
 ghost use Rattle.hash_cmds.specs.Found.{IsHashFound};
-ghost use Rattle.hash_cmds.specs.Planned.{h_set_plan, h_del_plan, setting, deleting};
+ghost use Rattle.hash_cmds.specs.Planned.{h_set_plan, h_del_plan, setting_fields, deleting_fields};
 
 use crate::found::hash_found;
 use kv_base::{Blob, Key, StoreFault};
@@ -67,7 +67,7 @@ fn set_fields<V: RawView>(
     requires values { All IsShort values.now }
     requires pairs { length values.now ≡ length fields.now }
     ensures plan { IfOk result (λ plan. IfSome (V.told view.old).rows
-        (λ c. plan ≡ setting c found.moment found.fresh key.now fields.now values.now found.old found.life)) }
+        (λ c. plan ≡ setting_fields c found.moment found.fresh key.now fields.now values.now found.old found.life)) }
     ensures reads { ReadsView (V.told view.old) (V.told view.new) result }
 {
     let version = life_version(found.fresh, found.life);
@@ -123,7 +123,7 @@ fn delete_fields<V: RawView>(
     requires found { IsHashFound found key.now }
     requires fields { All IsName fields.now }
     ensures plan { IfOk result (λ plan. IfSome (V.told view.old).rows
-        (λ c. plan ≡ deleting c found.moment found.fresh key.now fields.now found.old found.life)) }
+        (λ c. plan ≡ deleting_fields c found.moment found.fresh key.now fields.now found.old found.life)) }
     ensures reads { ReadsView (V.told view.old) (V.told view.new) result }
 {
     let Some(life) = found.life else {

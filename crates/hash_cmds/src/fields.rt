@@ -4,7 +4,7 @@ ghost use Rattle.std.specs.Prelude.{◌≡◌, All, IfOk, IfSome, map};
 ghost use Rattle.redis_model.specs.Limits.{IsName};
 ghost use Rattle.lives_model.specs.Views.{ReadsView};
 ghost use Rattle.plan_base.specs.Lives.{HasVersionIn};
-ghost use Rattle.hash_cmds.specs.Planned.{h_len_plan, h_m_get_plan, value_shown};
+ghost use Rattle.hash_cmds.specs.Planned.{h_len_plan, h_m_get_plan, value_of_field};
 
 use kv_base::{Blob, Key, StoreFault};
 use lives_model::{Plan, RawView};
@@ -73,7 +73,7 @@ fn each_value<V: RawView>(
 ) -> Result<Replies, StoreFault>
     requires version { HasVersionIn life }
     requires fields { All IsName fields.now }
-    ensures values { IfOk result (λ values. IfSome (V.told view.old).rows (λ c. values ≡ map (value_shown c key.now life) fields.now)) }
+    ensures values { IfOk result (λ values. IfSome (V.told view.old).rows (λ c. values ≡ map (value_of_field c key.now life) fields.now)) }
     ensures reads { ReadsView (V.told view.old) (V.told view.new) result }
 {
     let mut values = Replies::new(alloc);

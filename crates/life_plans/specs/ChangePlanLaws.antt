@@ -47,7 +47,7 @@ use Rattle.plan_base.specs.LifeChanges.{WantsRows, row_differs, differing, added
 use Rattle.plan_base.specs.LifeChangeLaws.{writes_life}
 use Rattle.life_plans.specs.ChangePlans.{HasElements, changing_plan, emptied_plan, size_after, life_text, by_life}
 use Rattle.life_plans.specs.Changes.{FindsLife, Wants, wishing_plan, wished_plan, ChangesBy}
-use Rattle.life_plans.specs.ChangeSizeLaws.{IsHeld, held, finds_life, wanted_row, size_is}
+use Rattle.life_plans.specs.ChangeSizeLaws.{IsHeldLife, held, finds_life, wanted_row, size_is}
 
 -- ---- a command that leaves all as it is
 
@@ -164,12 +164,12 @@ module _ {A : Type 0} {kind : Kind A} {code : Code} {row : A → Bytes → Optio
         ∙ (λ i. cond (l i) (Err TooLarge) (cond (e i) (Ok (remove m k)) (Ok (insert m k entry))) >>= λ n. Ok (answer, n))
 
     -- an empty collection leaves no key
-    emptied : (f : Option LifeSight) → IsHeld kind c t m k f a → again ≡ false → carried_out m t d ≡ Ok (answer, remove m k) → Plans c t fresh m d (emptied_plan t k (deadline_in (live_at c t k)) f answer)
+    emptied : (f : Option LifeSight) → IsHeldLife kind c t m k f a → again ≡ false → carried_out m t d ≡ Ok (answer, remove m k) → Plans c t fresh m d (emptied_plan t k (deadline_in (live_at c t k)) f answer)
     emptied None h once_only comes = quiet_plan fresh d k answer means (comes ∙ ap (λ (n : RedisMap). Ok (answer, n)) (remove_nothing m k h.0)) one (rewrites m ∙ once_only)
     emptied (Some life) h once_only comes = removed_plan fresh d k (meta_for h.entry.value h.stands.life h.stands.expire) answer means h.stands.meta comes one short
 
     -- where nothing differs the entry stays
-    same_entry_there : (f : Option LifeSight) → IsHeld kind c t m k f a → (kind.count b == 0) ≡ false → a ≡ b → insert m k entry ≡ m
+    same_entry_there : (f : Option LifeSight) → IsHeldLife kind c t m k f a → (kind.count b == 0) ≡ false → a ≡ b → insert m k entry ≡ m
     same_entry_there None h none that =
         let no : kind.count b ≡ 0 = ap kind.count (sym that ∙ h.1) ∙ stands.empty in
         let yes : (kind.count b == 0) ≡ true = ap (λ n. n == 0) no in

@@ -117,9 +117,9 @@ pub record HoldsLife {A : Type 0} (kind : Kind A) (c : Rows) (t : ℕ) (m : Redi
   pub goes : stands.life.version ≡ version
 
 -- or nothing
-abbrev pub IsHeld : {A : Type 0} → Kind A → Rows → ℕ → RedisMap → Bytes → Option LifeSight → A → Type 0
-IsHeld kind c t m k None a = (get m k ≡ None) × (a ≡ kind.none)
-IsHeld kind c t m k (Some life) a = HoldsLife kind c t m k life.version a
+abbrev pub IsHeldLife : {A : Type 0} → Kind A → Rows → ℕ → RedisMap → Bytes → Option LifeSight → A → Type 0
+IsHeldLife kind c t m k None a = (get m k ≡ None) × (a ≡ kind.none)
+IsHeldLife kind c t m k (Some life) a = HoldsLife kind c t m k life.version a
 
 -- outcomes that are equal have one value
 abbrev ok : {X : Type 0} → X → Outcome X
@@ -131,22 +131,22 @@ same_ok x y e = cc
 module _ {A : Type 0} {kind : Kind A} {code : Code} {row : A → Bytes → Option Bytes} (stands : StandsAs kind code row) where
   -- what is found of the life tells what stands there
   pub held : {c : Rows} {t : ℕ} {m : RedisMap} (means : Means c t m) (k : Bytes) (found : Option LifeSight) (a : A)
-      → life_found code (live_at c t k) ≡ Ok found → at_key kind m k ≡ Ok a → IsHeld kind c t m k found a
+      → life_found code (live_at c t k) ≡ Ok found → at_key kind m k ≡ Ok a → IsHeldLife kind c t m k found a
   held {c} {t} {m} means k found a is at = by_entry (get m k) refl (means.stands k)
     where
-      by_entry : (o : Option Entry) → get m k ≡ o → MeansAt c t k o → IsHeld kind c t m k found a
+      by_entry : (o : Option Entry) → get m k ≡ o → MeansAt c t k o → IsHeldLife kind c t m k found a
       by_entry None e s =
-          subst (λ (f : Option LifeSight). IsHeld kind c t m k f a) (same_ok None found (sym (ap (life_found code) s) ∙ is))
+          subst (λ (f : Option LifeSight). IsHeldLife kind c t m k f a) (same_ok None found (sym (ap (life_found code) s) ∙ is))
           (e, sym (same_ok kind.none a (sym (ap (seen kind) e) ∙ at)))
       by_entry (Some x) e s =
           let sees : kind.seen_as x.value ≡ Ok a = sym (ap (seen kind) e) ∙ at in
           let that : Some (record { version = s.life.version; size = kind.count a }) ≡ found =
           same_ok _ found (sym (ap (life_found code) s.meta ∙ stands.found x.value s.life s.expire ∙ ap (λ o. o >>= λ y. Ok (Some (record { version = s.life.version; size = kind.count y }))) sees) ∙ is) in
-          subst (λ (f : Option LifeSight). IsHeld kind c t m k f a) that
+          subst (λ (f : Option LifeSight). IsHeldLife kind c t m k f a) that
           (record { entry = x; there = e; stands = s; value = stands.is x.value a sees; goes = refl })
 
   -- the version of the life that goes on is within its limit
-  held_version : (c : Rows) (t : ℕ) (m : RedisMap) (k : Bytes) (fresh : ℕ) (found : Option LifeSight) (a : A) → IsTrue (is_version fresh) → IsHeld kind c t m k found a → IsTrue (is_version (life_on fresh found).version)
+  held_version : (c : Rows) (t : ℕ) (m : RedisMap) (k : Bytes) (fresh : ℕ) (found : Option LifeSight) (a : A) → IsTrue (is_version fresh) → IsHeldLife kind c t m k found a → IsTrue (is_version (life_on fresh found).version)
   held_version c t m k fresh None a fits h = fits
   held_version c t m k fresh (Some life) a fits h =
       ap is_version (sym h.goes)
@@ -159,7 +159,7 @@ module _ {A : Type 0} {kind : Kind A} {code : Code} {row : A → Bytes → Optio
     any_head a head other Scores subkey = has.no_scores a head subkey ∙ sym (has.no_scores a other subkey)
 
     -- the rows of the collection stand in the life that goes on, or else in a new one
-    held_rows : (c : Rows) (t : ℕ) (m : RedisMap) (k : Bytes) (fresh : ℕ) (found : Option LifeSight) (a : A) → IsTrue (is_version fresh) → IsFresh c fresh k → IsHeld kind c t m k found a
+    held_rows : (c : Rows) (t : ℕ) (m : RedisMap) (k : Bytes) (fresh : ℕ) (found : Option LifeSight) (a : A) → IsTrue (is_version fresh) → IsFresh c fresh k → IsHeldLife kind c t m k found a
         → HasRowsOf c k (life_on fresh found) (kind.value_of a)
     held_rows c t m k fresh None a fits above h =
         record { scores = has.scores a; indices = has.indices a (2 ^ 63); rows = λ side subkey. above side fresh subkey (omega arith) fits ∙ sym (no_row side subkey) }

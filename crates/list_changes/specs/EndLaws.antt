@@ -23,7 +23,7 @@ use Rattle.list_plans.specs.declared.sight.ListSight.{ListSight}
 use Rattle.list_plans.specs.ListLives.{list_found, list_on, IsFoundWithin, IsSightWithin, IsListAt}
 use Rattle.list_plans.specs.ListLifeLaws.{list_meta}
 use Rattle.list_plans.specs.ListReadLaws.{item_is_there}
-use Rattle.list_plans.specs.ListRows.{end_index, has_room, tail_pushed, tail_popped}
+use Rattle.list_plans.specs.ListRows.{end_index, end_has_room, tail_pushed, tail_popped}
 use Rattle.list_changes.specs.Ends.{IsSightOn, sight_pushed, sight_popped, is_too_long}
 use Rattle.list_changes.specs.Found.{item_raw}
 
@@ -47,7 +47,7 @@ low_enough a b h = grind (arith, nat_tests)
 below_end : (a b : ℕ) → nat_lt a b ≡ true → a < b
 below_end a b h = grind (arith, nat_tests)
 
-pub pushed_tail : (end : End) (list : ListSight) (items vs : List Bytes) → list.tail ≡ list.head + length items → IsTrue (has_room end list (length vs))
+pub pushed_tail : (end : End) (list : ListSight) (items vs : List Bytes) → list.tail ≡ list.head + length items → IsTrue (end_has_room end list (length vs))
     → tail_pushed end (length vs) list.tail ≡ head_pushed end (length vs) list.head + length (pushed end items vs)
 pushed_tail Left list items vs ends room =
     let size = pushed_size Left items vs in
@@ -67,7 +67,7 @@ popped_tail Right list items ends some =
     omega (arith, ends, size, some)
 
 -- so these are the lists that are left
-pub pushed_sight : (end : End) (list : ListSight) (items vs : List Bytes) → list.tail ≡ list.head + length items → IsTrue (has_room end list (length vs))
+pub pushed_sight : (end : End) (list : ListSight) (items vs : List Bytes) → list.tail ≡ list.head + length items → IsTrue (end_has_room end list (length vs))
     → sight_pushed end (length vs) list
     ≡ record { version = list.version; head = head_pushed end (length vs) list.head; tail = head_pushed end (length vs) list.head + length (pushed end items vs) }
 pushed_sight end list items vs ends room =
@@ -96,13 +96,13 @@ end_item c k list items Right is some =
 -- ---- room
 
 -- indices that do not run out leave room
-pub room_is : (end : End) (list : ListSight) (n : ℕ) → n ≤ list.head → list.tail + n < 2 ^ 64 → IsTrue (has_room end list n)
+pub room_is : (end : End) (list : ListSight) (n : ℕ) → n ≤ list.head → list.tail + n < 2 ^ 64 → IsTrue (end_has_room end list n)
 room_is Left list n low high = grind (arith, nat_tests)
 room_is Right list n low high = grind (arith, nat_tests)
 
 -- a store sees to it that there is some for the items of a command
 pub room_ready : (c : Rows) (t fresh : ℕ) (d : Command) (k : Bytes) (end : End) (found : Option ListSight) (n : ℕ) → IsReady c t fresh (One d) → IsTrue (among (keys_in (One d)) k)
-    → list_found (live_at c t k) ≡ Ok found → n ≤ words d → n < 2 ^ 63 → IsTrue (has_room end (list_on fresh found) n)
+    → list_found (live_at c t k) ≡ Ok found → n ≤ words d → n < 2 ^ 63 → IsTrue (end_has_room end (list_on fresh found) n)
 room_ready c t fresh d k end None n ready named is few low = room_is end (list_on fresh None) n (omega (arith, low)) (omega (arith, low))
 room_ready c t fresh d k end (Some list) n ready named is few low =
     let meta = list_meta (live_at c t k) list is in
@@ -114,7 +114,7 @@ room_ready c t fresh d k end (Some list) n ready named is few low =
 -- ---- within the limits
 
 -- a tail to which items were added has 64 bits
-pub pushed_low : (end : End) (list : ListSight) (n : ℕ) → list.tail < 2 ^ 64 → IsTrue (has_room end list n) → tail_pushed end n list.tail < 2 ^ 64
+pub pushed_low : (end : End) (list : ListSight) (n : ℕ) → list.tail < 2 ^ 64 → IsTrue (end_has_room end list n) → tail_pushed end n list.tail < 2 ^ 64
 pushed_low Left list n low room = low
 pushed_low Right list n low room = below_end (list.tail + n) (2 ^ 64) room
 
@@ -142,8 +142,8 @@ room_fits false false h = absurd (cc)
 room_fits true r h = absurd (cc)
 
 -- where they are not too many there is room for them
-pub long_room : (end : End) (list : ListSight) (n : ℕ) → IsFalse (is_too_long end list n) → IsTrue (has_room end list n)
-long_room end list n short = room_fits (nat_lt max_size ((list.tail - list.head) + n)) (has_room end list n) short
+pub long_room : (end : End) (list : ListSight) (n : ℕ) → IsFalse (is_too_long end list n) → IsTrue (end_has_room end list n)
+long_room end list n short = room_fits (nat_lt max_size ((list.tail - list.head) + n)) (end_has_room end list n) short
 
 -- after a push that is not too long
 pub pushed_within : (end : End) (list : ListSight) (n : ℕ) → IsSightOn list → 0 < n → IsFalse (is_too_long end list n) → IsSightWithin (sight_pushed end n list)

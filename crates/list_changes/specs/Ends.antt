@@ -6,7 +6,7 @@ use Rattle.redis_model.specs.declared.command.End.{End}
 use Rattle.redis_model.specs.Value.{max_size}
 use Rattle.lives_model.specs.Moved.{head_pushed, head_popped}
 use Rattle.list_plans.specs.declared.sight.ListSight.{ListSight}
-use Rattle.list_plans.specs.ListRows.{tail_pushed, tail_popped, has_room}
+use Rattle.list_plans.specs.ListRows.{tail_pushed, tail_popped, end_has_room}
 
 -- a list within its limits, or a new one, which has no items yet
 pub record IsSightOn (list : ListSight) : Type 0 where
@@ -24,4 +24,4 @@ sight_popped end list = record { version = list.version; head = head_popped end 
 
 -- Too many items are an error. A store sees to it that indices do not run out; where they did, that would be the same one.
 abbrev pub is_too_long : End → ListSight → ℕ → Bool
-is_too_long end list n = nat_lt max_size ((list.tail - list.head) + n) || not (has_room end list n)
+is_too_long end list n = nat_lt max_size ((list.tail - list.head) + n) || not (end_has_room end list n)

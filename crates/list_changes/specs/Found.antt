@@ -45,9 +45,9 @@ item_of c k at None = None
 item_of c k at (Some list) = item_at_place c k list (place (list.tail - list.head) at)
 
 -- the item at an end
-abbrev pub end_of : Rows → Bytes → End → Option ListSight → Option Bytes
-end_of c k end None = None
-end_of c k end (Some list) = get c (item_raw k list (end_index end list))
+abbrev pub item_at_end : Rows → Bytes → End → Option ListSight → Option Bytes
+item_at_end c k end None = None
+item_at_end c k end (Some list) = get c (item_raw k list (end_index end list))
 
 -- an item of what was found, none where it was an error
 abbrev pub item_found : (Option ListSight → Option Bytes) → Outcome (Option ListSight) → Option Bytes

@@ -2,7 +2,7 @@
 
 ghost use Rattle.std.specs.Prelude.{◌≡◌, ◌<◌, ◌^◌, IsTrue};
 ghost use Rattle.list_changes.specs.Ends.{IsSightOn, is_too_long, sight_popped, sight_pushed};
-ghost use Rattle.list_plans.specs.ListRows.{has_room};
+ghost use Rattle.list_plans.specs.ListRows.{end_has_room};
 
 use list_plans::ListSight;
 use redis_model::End;
@@ -17,12 +17,12 @@ pub fn is_too_long(end: End, list: ListSight, count: u64) -> bool
     ensures { result ≡ is_too_long end list count }
 {
     let size = list.tail - list.head + count;
-    MAX_SIZE < size || !has_room(end, list, count)
+    MAX_SIZE < size || !end_has_room(end, list, count)
 }
 
 /// Do the indices of so many items more at an end have 64 bits?
-fn has_room(end: End, list: ListSight, count: u64) -> bool
-    ensures { result ≡ has_room end list count }
+fn end_has_room(end: End, list: ListSight, count: u64) -> bool
+    ensures { result ≡ end_has_room end list count }
 {
     match end {
         End::Left => count <= list.head,
@@ -33,7 +33,7 @@ fn has_room(end: End, list: ListSight, count: u64) -> bool
 /// The list after so many items more at an end.
 #[tactic(auto, using(crate::specs::ItemLaws::room_before, crate::specs::ItemLaws::room_behind))]
 pub fn sight_pushed(end: End, list: ListSight, count: u64) -> ListSight
-    requires { IsTrue (has_room end list count) }
+    requires { IsTrue (end_has_room end list count) }
     ensures { result ≡ sight_pushed end count list }
 {
     match end {

@@ -5,7 +5,7 @@ ghost use Rattle.kv_base.specs.Map.{get};
 ghost use Rattle.kv_base.specs.RawKeys.{is_raw_text, is_version};
 ghost use Rattle.kv_base.specs.RowRefs.{meta_seen};
 ghost use Rattle.lives_model.specs.Views.{ReadsView};
-ghost use Rattle.list_changes.specs.Found.{IsFoundList, end_of, found_at, found_in, item_found, item_of, item_raw};
+ghost use Rattle.list_changes.specs.Found.{IsFoundList, item_at_end, found_at, found_in, item_found, item_of, item_raw};
 ghost use Rattle.list_plans.specs.ListLives.{IsFoundWithin, items_found, list_found, list_on};
 ghost use Rattle.list_plans.specs.ListRows.{end_index};
 ghost use Rattle.plan_base.specs.Seen.{live_in};
@@ -179,7 +179,7 @@ pub fn read_end<V: RawView>(
     end: End,
 ) -> Result<Option<Blob>, StoreFault>
     requires { IfOk found.list IsFoundWithin }
-    ensures item { IfOk result (λ item. IfSome (V.told view.old).rows (λ c. item ≡ item_found (end_of c key.now end) found.list)) }
+    ensures item { IfOk result (λ item. IfSome (V.told view.old).rows (λ c. item ≡ item_found (item_at_end c key.now end) found.list)) }
     ensures reads { ReadsView (V.told view.old) (V.told view.new) result }
 {
     let Ok(Some(list)) = found.list else {

@@ -6,7 +6,7 @@ ghost use Rattle.kv_base.specs.Map.{insert};
 ghost use Rattle.kv_base.specs.RawKeys.{is_version};
 ghost use Rattle.life_plans.specs.WantedRows.{with_wish};
 ghost use Rattle.list_changes.specs.Found.{item_raw};
-ghost use Rattle.list_plans.specs.ListRows.{cuts_before, cuts_from, has_room, puts_before, puts_from, pushes, trims};
+ghost use Rattle.list_plans.specs.ListRows.{cuts_before, cuts_from, end_has_room, puts_before, puts_from, pushes, trims};
 ghost use Rattle.redis_model.specs.Limits.{IsShort};
 
 use crate::found::item_raw;
@@ -101,7 +101,7 @@ pub fn put_items(
     items: &[Blob],
 ) -> Result<(), NoMem>
     requires version { IsTrue (is_version list.version) }
-    requires room { IsTrue (has_room end list (length items.now)) }
+    requires room { IsTrue (end_has_room end list (length items.now)) }
     requires short { All IsShort items.now }
     ensures { OnOk result (batch.new ≡ fold (with_wish key.now list.version) batch.old (pushes end list items.now)) }
 {

@@ -1,9 +1,7 @@
 -- What the plans of commands that change one list have in common.
 use Rattle.std.proofs.Common.{ℕ, ◌≡◌, refl, ap, ◌∙◌, true, false, List, [], ◌∷◌, length, arith}
-use Rattle.std.proofs.lemmas.List.Elements.{All-head}
-use Rattle.std.specs.Prelude.{◌||◌, Option, Some, None, Ok, Err, IsTrue, All, is_some}
-use Rattle.kv_base.specs.Map.{Bytes, get, has, same_itself}
-use Rattle.kv_base.specs.RawKeys.{is_key}
+use Rattle.std.specs.Prelude.{Option, Some, None, Ok, Err, IsTrue, is_some}
+use Rattle.kv_base.specs.Map.{Bytes, get, has}
 use Rattle.kv_base.specs.MetaValues.{ListValue}
 use Rattle.redis_model.specs.declared.reply.Reply.{Reply}
 use Rattle.redis_model.specs.declared.reply.ReplyError.{ReplyError}
@@ -15,14 +13,13 @@ use Rattle.redis_model.specs.About.{keys_of}
 use Rattle.redis_model.specs.Apply.{carried_out}
 use Rattle.redis_model.specs.Deadlines.{keys_in}
 use Rattle.redis_model.specs.Keys.{among}
-use Rattle.redis_model.specs.Limits.{IsName}
 use Rattle.redis_model.specs.Touched.{written_again}
 use Rattle.lives_model.specs.declared.plan.Plan.{Plan}
 use Rattle.lives_model.specs.Rows.{Rows}
 use Rattle.lives_model.specs.Clean.{live_at}
 use Rattle.lives_model.specs.Means.{Means}
 use Rattle.lives_model.specs.Plans.{IsPlanOf}
-use Rattle.plan_base.specs.KeyLimitLaws.{name_is_key}
+use Rattle.plan_base.specs.KeyLimitLaws.{among_itself}
 use Rattle.plan_base.specs.KeyPlanLaws.{still_plan}
 use Rattle.plan_base.specs.LifePlans.{answering}
 use Rattle.plan_base.specs.LifePlanLaws.{one_key_ahead}
@@ -38,14 +35,7 @@ PlansOn c t fresh m d p = IsPlanOf c t fresh m d p.batch p.reply p.until
 
 -- ---- the key
 
--- the key of a command with one key fits
-pub key_is_short : (k : Bytes) → All IsName (k ∷ []) → IsTrue (is_key k)
-key_is_short k names = name_is_key k (All-head IsName k [] names)
-
--- and is among those that it names
-pub among_itself : (k : Bytes) → IsTrue (among (k ∷ []) k)
-among_itself k = ap (λ b. b || false) (same_itself k)
-
+-- the key of a command with one key is among those that it names
 pub is_named : (d : Command) (k : Bytes) → keys_of d ≡ k ∷ [] → IsTrue (among (keys_in (One d)) k)
 is_named d k one = ap (λ ks. among ks k) one ∙ among_itself k
 

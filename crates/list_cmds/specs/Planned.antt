@@ -38,13 +38,13 @@ abbrev pub items_between : Rows → Bytes → ListSight → ℕ → ℕ → List
 items_between c k list from end =
     if nat_le end from then [] else map (λ row. row.1) (page c (item_raw k list (list.head + from)) (life_prefix element_space k list.version) (end - from))
 
-abbrev pub ranged : Rows → Bytes → ℤ → ℤ → Option ListSight → List Bytes
-ranged c k a b None = []
-ranged c k a b (Some list) = items_between c k list (start_at (list.tail - list.head) a) (end_at (list.tail - list.head) b)
+abbrev pub items_in_range : Rows → Bytes → ℤ → ℤ → Option ListSight → List Bytes
+items_in_range c k a b None = []
+items_in_range c k a b (Some list) = items_between c k list (start_at (list.tail - list.head) a) (end_at (list.tail - list.head) b)
 
 -- LRANGE
 unfoldable pub l_range_plan : Rows → ℕ → ListFound → Bytes → ℤ → ℤ → Plan
-l_range_plan c t found k a b = by_list t found.deadline (λ list. answering t found.deadline (bulks (ranged c k a b list))) found.list
+l_range_plan c t found k a b = by_list t found.deadline (λ list. answering t found.deadline (bulks (items_in_range c k a b list))) found.list
 
 -- ---- pushing
 

@@ -22,6 +22,7 @@ use Rattle.lives_model.specs.Clean.{live_at}
 use Rattle.lives_model.specs.Means.{Means}
 use Rattle.lives_model.specs.Moved.{head_popped, head_after}
 use Rattle.lives_model.specs.Plans.{IsReady, is_store}
+use Rattle.plan_base.specs.KeyLimitLaws.{key_is_short}
 use Rattle.plan_base.specs.Carries.{Carries}
 use Rattle.plan_base.specs.KeyPlanLaws.{remove_nothing}
 use Rattle.plan_base.specs.Seen.{deadline_in}
@@ -34,9 +35,9 @@ use Rattle.list_plans.specs.ListRowLaws.{pop_changes}
 use Rattle.list_plans.specs.ListChangeLaws.{list_changing, list_left, list_gone, left_there, left_gone, changing_is, touched_longer}
 use Rattle.list_changes.specs.Ends.{sight_popped}
 use Rattle.list_changes.specs.EndLaws.{popped_size, popped_sight, end_item}
-use Rattle.list_changes.specs.Found.{found_at, end_of, item_found, item_raw}
+use Rattle.list_changes.specs.Found.{found_at, item_at_end, item_found, item_raw}
 use Rattle.list_cmds.specs.Planned.{popping, pop_plan}
-use Rattle.list_cmds.specs.ChangeParts.{PlansOn, key_is_short, is_named, none_there, wrong_type, left_alone, no_items}
+use Rattle.list_cmds.specs.ChangeParts.{PlansOn, is_named, none_there, wrong_type, left_alone, no_items}
 
 -- ---- a pop
 
@@ -100,11 +101,11 @@ module _ (c : Rows) (t fresh : ℕ) (d : Command) (k : Bytes) (end : End) (one :
       tail_low Right list items ends low some = let left = popped_size Right items in omega (arith, left, ends, low, some)
 
   pops : (m : RedisMap) (found : Option ListSight) (items : List Bytes) → Means c t m → IsReady c t fresh (One d) → list_found (live_at c t k) ≡ Ok found → IsListOf c k found items → at_key lists m k ≡ Ok items
-      → PlansOn c t fresh m d (popping t k (deadline_in (live_at c t k)) end (bulk_or_null (item_found (end_of c k end) (list_found (live_at c t k)))) found)
+      → PlansOn c t fresh m d (popping t k (deadline_in (live_at c t k)) end (bulk_or_null (item_found (item_at_end c k end) (list_found (live_at c t k)))) found)
   pops m None items means ready is there at = nothing_popped m means is (subst (λ (l : List Bytes). at_key lists m k ≡ Ok l) there at)
   pops m (Some list) items means ready is there at =
       subst (λ (o : Option Bytes). PlansOn c t fresh m d (popping t k (deadline_in (live_at c t k)) end (bulk_or_null o) (Some list)))
-      (sym (ap (item_found (end_of c k end)) is ∙ end_item c k list items end there some))
+      (sym (ap (item_found (item_at_end c k end)) is ∙ end_item c k list items end there some))
       (by_count (list.tail - list.head == 1) refl)
     where
       count : list.tail - list.head ≡ length items
@@ -119,21 +120,21 @@ module _ (c : Rows) (t fresh : ℕ) (d : Command) (k : Bytes) (end : End) (one :
       by_count true e = last_popped m list items means is at (sym count ∙ one_item (list.tail - list.head) e)
       by_count false e = one_popped m list items means ready is there at (more_items (length items) some (ap (λ (n : ℕ). n == 1) (sym count) ∙ e))
 
-  pop_carries : Carries c t fresh d (pop_plan t (found_at c t k) k end (item_found (end_of c k end) (found_at c t k).list))
+  pop_carries : Carries c t fresh d (pop_plan t (found_at c t k) k end (item_found (item_at_end c k end) (found_at c t k).list))
   unfolding pop_plan
   pop_carries =
-      list_changing c t fresh d k (popping t k (deadline_in (live_at c t k)) end (bulk_or_null (item_found (end_of c k end) (list_found (live_at c t k))))) one short
+      list_changing c t fresh d k (popping t k (deadline_in (live_at c t k)) end (bulk_or_null (item_found (item_at_end c k end) (list_found (live_at c t k))))) one short
       (λ m e at. done m ∙ wrong_type m k (pop_item end) e at)
       pops
 
 -- ---- the commands
 
 pub l_pop_carries : (c : Rows) (t fresh : ℕ) (k : Bytes) (w : ℕ) → IsWithin (cmd.LPop k w)
-    → Carries c t fresh (cmd.LPop k w) (pop_plan t (found_at c t k) k Left (item_found (end_of c k Left) (found_at c t k).list))
+    → Carries c t fresh (cmd.LPop k w) (pop_plan t (found_at c t k) k Left (item_found (item_at_end c k Left) (found_at c t k).list))
 unfolding carried_out head_after
 l_pop_carries c t fresh k w within = pop_carries c t fresh (cmd.LPop k w) k Left refl (key_is_short k within.names) refl (λ m head. refl) (λ m. refl) (λ m. refl)
 
 pub r_pop_carries : (c : Rows) (t fresh : ℕ) (k : Bytes) (w : ℕ) → IsWithin (cmd.RPop k w)
-    → Carries c t fresh (cmd.RPop k w) (pop_plan t (found_at c t k) k Right (item_found (end_of c k Right) (found_at c t k).list))
+    → Carries c t fresh (cmd.RPop k w) (pop_plan t (found_at c t k) k Right (item_found (item_at_end c k Right) (found_at c t k).list))
 unfolding carried_out head_after
 r_pop_carries c t fresh k w within = pop_carries c t fresh (cmd.RPop k w) k Right refl (key_is_short k within.names) refl (λ m head. refl) (λ m. refl) (λ m. refl)

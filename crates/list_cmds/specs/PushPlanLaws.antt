@@ -23,6 +23,7 @@ use Rattle.lives_model.specs.Clean.{live_at}
 use Rattle.lives_model.specs.Means.{Means}
 use Rattle.lives_model.specs.Moved.{head_pushed, head_after}
 use Rattle.lives_model.specs.Plans.{IsReady, is_store, words}
+use Rattle.plan_base.specs.KeyLimitLaws.{key_is_short}
 use Rattle.plan_base.specs.Carries.{Carries}
 use Rattle.plan_base.specs.LifePlans.{answering}
 use Rattle.plan_base.specs.Seen.{deadline_in}
@@ -31,14 +32,14 @@ use Rattle.list_plans.specs.declared.sight.ListSight.{ListSight}
 use Rattle.list_plans.specs.ListLives.{list_found, list_on, IsListAt, IsListOf}
 use Rattle.list_plans.specs.ListLifeLaws.{list_stands, found_within}
 use Rattle.list_plans.specs.ListPlans.{list_plan}
-use Rattle.list_plans.specs.ListRows.{has_room, pushes}
+use Rattle.list_plans.specs.ListRows.{end_has_room, pushes}
 use Rattle.list_plans.specs.ListRowLaws.{push_changes}
 use Rattle.list_plans.specs.ListChangeLaws.{list_changing, list_left, list_refused, left_there, left_large, changing_is, touched_longer}
 use Rattle.list_changes.specs.Ends.{sight_pushed}
 use Rattle.list_changes.specs.EndLaws.{pushed_size, pushed_tail, pushed_sight, pushed_low, room_ready}
 use Rattle.list_changes.specs.Found.{found_at}
 use Rattle.list_cmds.specs.Planned.{pushing, push_plan, pushing_x, push_x_plan}
-use Rattle.list_cmds.specs.ChangeParts.{PlansOn, key_is_short, is_named, list_has, none_there, wrong_has, wrong_type, left_alone}
+use Rattle.list_cmds.specs.ChangeParts.{PlansOn, is_named, list_has, none_there, wrong_has, wrong_type, left_alone}
 
 above : (a b : ℕ) → nat_lt a b ≡ true → a < b
 above a b h = grind (arith, nat_tests)
@@ -57,7 +58,7 @@ module _ (c : Rows) (t fresh : ℕ) (d : Command) (k : Bytes) (end : End) (vs : 
   pushes_on : (m : RedisMap) (found : Option ListSight) (items : List Bytes) → Means c t m → IsReady c t fresh (One d) → list_found (live_at c t k) ≡ Ok found → IsListOf c k found items → at_key lists m k ≡ Ok items
       → carried_out m t d ≡ push m k end vs → PlansOn c t fresh m d (pushing t k (deadline_in (live_at c t k)) end vs (list_on fresh found))
   unfolding pushing
-  pushes_on m found items means ready is there at done = by_tests (nat_lt max_size ((list.tail - list.head) + length vs)) refl (has_room end list (length vs)) refl
+  pushes_on m found items means ready is there at done = by_tests (nat_lt max_size ((list.tail - list.head) + length vs)) refl (end_has_room end list (length vs)) refl
     where
       old : Option ℕ
       old = deadline_in (live_at c t k)
@@ -74,7 +75,7 @@ module _ (c : Rows) (t fresh : ℕ) (d : Command) (k : Bytes) (end : End) (vs : 
       stands : IsListAt c k list items
       stands = list_stands c k fresh found items there ready.fits (ready.above k (is_named d k one))
 
-      room : IsTrue (has_room end list (length vs))
+      room : IsTrue (end_has_room end list (length vs))
       room = room_ready c t fresh d k end found (length vs) ready (is_named d k one) is worded (omega (arith, few))
 
       size : (list.tail - list.head) + length vs ≡ length next
@@ -113,7 +114,7 @@ module _ (c : Rows) (t fresh : ℕ) (d : Command) (k : Bytes) (end : End) (vs : 
           more within low
           (push_changes c k list.version short fits items list.head (subst (λ (n : ℕ). n < 2 ^ 64) stands.ends stands.low) (λ subkey. stands.rows Elements subkey) end list vs refl stands.ends room))
 
-      by_tests : (b : Bool) → nat_lt max_size ((list.tail - list.head) + length vs) ≡ b → (r : Bool) → has_room end list (length vs) ≡ r
+      by_tests : (b : Bool) → nat_lt max_size ((list.tail - list.head) + length vs) ≡ b → (r : Bool) → end_has_room end list (length vs) ≡ r
           → PlansOn c t fresh m d (cond (b || not r) (answering t old (reply.Error TooLarge))
           (list_plan t k old (sight_pushed end (length vs) list) (wanted k list.version (pushes end list vs)) (number ((list.tail - list.head) + length vs))))
       by_tests true large r e = too_large large

@@ -21,7 +21,7 @@ use Rattle.list_plans.specs.ListLives.{list_found, items_found, IsListAt, IsList
 use Rattle.list_plans.specs.ListReadLaws.{items_there, item_is_there, items_in_page, list_reading}
 use Rattle.list_plans.specs.ListPlans.{by_list}
 use Rattle.list_changes.specs.Found.{found_at, item_of, item_at_place, item_found, item_raw}
-use Rattle.list_cmds.specs.Planned.{l_len_plan, l_index_plan, l_range_plan, items_between, ranged}
+use Rattle.list_cmds.specs.Planned.{l_len_plan, l_index_plan, l_range_plan, items_between, items_in_range}
 
 -- ---- LLEN
 
@@ -114,7 +114,7 @@ between_are c k list items from end is within = by_test (nat_le end from) refl
         let low : from ≤ length items = grind (arith, nat_tests, e, within) in
         items_in_page c k list items from (end - from) is low
 
-range_is : (c : Rows) (k : Bytes) (a b : ℤ) (found : Option ListSight) (items : List Bytes) → IsListOf c k found items → ranged c k a b found ≡ range items a b
+range_is : (c : Rows) (k : Bytes) (a b : ℤ) (found : Option ListSight) (items : List Bytes) → IsListOf c k found items → items_in_range c k a b found ≡ range items a b
 range_is c k a b None items is = none_between (end_at (length items) b - start_at (length items) a) (start_at (length items) a) items is
 range_is c k a b (Some list) items is =
     ap (λ (n : ℕ). items_between c k list (start_at n a) (end_at n b)) (items_are_many c k list items is)
@@ -123,5 +123,5 @@ range_is c k a b (Some list) items is =
 pub l_range_carries : (c : Rows) (t fresh : ℕ) (k : Bytes) (a b : ℤ) (w : ℕ) → Carries c t fresh (cmd.LRange k a b w) (l_range_plan c t (found_at c t k) k a b)
 unfolding carried_out l_range_plan
 l_range_carries c t fresh k a b w =
-    list_reading c t fresh (cmd.LRange k a b w) k (λ items. bulks (range items a b)) (λ found. bulks (ranged c k a b found)) refl refl (λ m. refl)
+    list_reading c t fresh (cmd.LRange k a b w) k (λ items. bulks (range items a b)) (λ found. bulks (items_in_range c k a b found)) refl refl (λ m. refl)
     (λ found items is. ap bulks (range_is c k a b found items is))

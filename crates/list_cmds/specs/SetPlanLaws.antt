@@ -18,6 +18,7 @@ use Rattle.lives_model.specs.Clean.{live_at}
 use Rattle.lives_model.specs.Means.{Means}
 use Rattle.lives_model.specs.Moved.{head_after}
 use Rattle.lives_model.specs.Plans.{IsReady}
+use Rattle.plan_base.specs.KeyLimitLaws.{key_is_short, among_itself}
 use Rattle.plan_base.specs.Carries.{Carries}
 use Rattle.plan_base.specs.KeyStepLaws.{touched_again}
 use Rattle.plan_base.specs.Seen.{deadline_in}
@@ -31,7 +32,7 @@ use Rattle.list_plans.specs.ListChangeLaws.{list_changing, list_left, list_refus
 use Rattle.list_changes.specs.Found.{found_at, item_of, item_at_place, item_found, item_raw}
 use Rattle.list_cmds.specs.Planned.{setting, setting_at, l_set_plan}
 use Rattle.list_cmds.specs.ReadPlanLaws.{place_within, items_are_many}
-use Rattle.list_cmds.specs.ChangeParts.{PlansOn, key_is_short, among_itself, is_named, list_has, none_there, wrong_has, wrong_type, wrong_place}
+use Rattle.list_cmds.specs.ChangeParts.{PlansOn, is_named, list_has, none_there, wrong_has, wrong_type, wrong_place}
 
 module _ (c : Rows) (t fresh : ℕ) (k : Bytes) (at : ℤ) (v : Bytes) (w : ℕ) (short : IsTrue (is_key k)) where
   -- what it comes to, where there is a key and where there is none

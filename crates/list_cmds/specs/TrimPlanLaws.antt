@@ -21,6 +21,7 @@ use Rattle.lives_model.specs.Clean.{live_at}
 use Rattle.lives_model.specs.Means.{Means}
 use Rattle.lives_model.specs.Moved.{items_of, head_after}
 use Rattle.lives_model.specs.Plans.{IsReady}
+use Rattle.plan_base.specs.KeyLimitLaws.{key_is_short}
 use Rattle.plan_base.specs.Carries.{Carries}
 use Rattle.plan_base.specs.KeyPlanLaws.{remove_nothing}
 use Rattle.plan_base.specs.LifePlans.{answering}
@@ -36,7 +37,7 @@ use Rattle.list_plans.specs.ListChangeLaws.{list_changing, list_left, list_gone,
 use Rattle.list_changes.specs.Found.{found_at}
 use Rattle.list_cmds.specs.Planned.{trimming_to, trimming, l_trim_plan}
 use Rattle.list_cmds.specs.ReadPlanLaws.{items_are_many, end_within, none_between}
-use Rattle.list_cmds.specs.ChangeParts.{PlansOn, key_is_short, is_named, none_there, wrong_type, left_alone}
+use Rattle.list_cmds.specs.ChangeParts.{PlansOn, is_named, none_there, wrong_type, left_alone}
 
 -- ---- what is at the key
 

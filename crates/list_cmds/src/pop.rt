@@ -2,7 +2,7 @@
 
 ghost use Rattle.std.specs.Prelude.{◌≡◌, IfOk, IfSome};
 ghost use Rattle.lives_model.specs.Views.{ReadsView};
-ghost use Rattle.list_changes.specs.Found.{IsFoundList, end_of, found_at, item_found};
+ghost use Rattle.list_changes.specs.Found.{IsFoundList, item_at_end, found_at, item_found};
 ghost use Rattle.list_cmds.specs.Planned.{pop_plan};
 
 use batch_codec::BatchBuilder;
@@ -27,7 +27,7 @@ pub(crate) fn pop<V: RawView>(
     end: End,
 ) -> Result<Plan, StoreFault>
     ensures plan { IfOk result (λ plan. IfSome (V.told view.old).rows
-        (λ c. plan ≡ pop_plan moment (found_at c moment key.now) key.now end (item_found (end_of c key.now end) (found_at c moment key.now).list))) }
+        (λ c. plan ≡ pop_plan moment (found_at c moment key.now) key.now end (item_found (item_at_end c key.now end) (found_at c moment key.now).list))) }
     ensures reads { ReadsView (V.told view.old) (V.told view.new) result }
 {
     let meta = MetaKey::new(alloc, key)?;

@@ -6,7 +6,7 @@ ghost use Rattle.lives_model.specs.LiveRowLists.{pairs};
 ghost use Rattle.lives_model.specs.Views.{ReadsView};
 ghost use Rattle.list_plans.specs.ListLives.{IsFoundWithin};
 ghost use Rattle.list_changes.specs.Found.{IsFoundList, found_at, item_found, item_of};
-ghost use Rattle.list_cmds.specs.Planned.{l_index_plan, l_len_plan, l_range_plan, ranged};
+ghost use Rattle.list_cmds.specs.Planned.{l_index_plan, l_len_plan, l_range_plan, items_in_range};
 
 use kv_base::{Blob, Key, NoMem, StoreFault};
 use life_pages::read_range;
@@ -111,7 +111,7 @@ fn range_reply<V: RawView>(
     last: i64,
 ) -> Result<Reply, StoreFault>
     requires { IsFoundWithin list }
-    ensures reply { IfOk result (λ reply. IfSome (V.told view.old).rows (λ c. reply ≡ bulks (ranged c key.now first last list))) }
+    ensures reply { IfOk result (λ reply. IfSome (V.told view.old).rows (λ c. reply ≡ bulks (items_in_range c key.now first last list))) }
     ensures reads { ReadsView (V.told view.old) (V.told view.new) result }
 {
     let Some(list) = list else {

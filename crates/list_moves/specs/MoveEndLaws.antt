@@ -11,7 +11,7 @@ use Rattle.lives_model.specs.Rows.{Rows}
 use Rattle.list_plans.specs.declared.sight.ListSight.{ListSight}
 use Rattle.list_plans.specs.ListLives.{IsSightWithin, IsListAt}
 use Rattle.list_plans.specs.ListIndexLaws.{item_there}
-use Rattle.list_plans.specs.ListRows.{tail_popped, end_index, has_room}
+use Rattle.list_plans.specs.ListRows.{tail_popped, end_index, end_has_room}
 use Rattle.list_changes.specs.Ends.{IsSightOn, sight_popped, is_too_long}
 use Rattle.list_changes.specs.EndLaws.{end_item, room_is}
 use Rattle.list_changes.specs.Found.{item_raw}
@@ -38,7 +38,7 @@ popped_low Right list low = omega (arith, low)
 -- ---- room
 
 -- a list with room at both ends has it without one of its items
-pub popped_room : (from to : End) (list : ListSight) → IsTrue (has_room Left list 1) → IsTrue (has_room Right list 1) → IsTrue (has_room to (sight_popped from list) 1)
+pub popped_room : (from to : End) (list : ListSight) → IsTrue (end_has_room Left list 1) → IsTrue (end_has_room Right list 1) → IsTrue (end_has_room to (sight_popped from list) 1)
 popped_room Left to list before behind =
     let low = room_behind 1 list.tail behind in
     room_is to (sight_popped Left list) 1 (omega arith) low
@@ -50,9 +50,9 @@ not_large : (n : ℕ) → n < 2 ^ 32 → nat_lt max_size n ≡ false
 not_large n h = grind (arith, nat_tests)
 
 -- so an item that was taken does not come back to too many
-pub turned_short : (from to : End) (list : ListSight) → IsSightWithin list → IsTrue (has_room to (sight_popped from list) 1) → IsFalse (is_too_long to (sight_popped from list) 1)
+pub turned_short : (from to : End) (list : ListSight) → IsSightWithin list → IsTrue (end_has_room to (sight_popped from list) 1) → IsFalse (is_too_long to (sight_popped from list) 1)
 turned_short from to list within room =
-    by_tests (nat_lt max_size (((sight_popped from list).tail - (sight_popped from list).head) + 1)) (has_room to (sight_popped from list) 1)
+    by_tests (nat_lt max_size (((sight_popped from list).tail - (sight_popped from list).head) + 1)) (end_has_room to (sight_popped from list) 1)
     (not_large (((sight_popped from list).tail - (sight_popped from list).head) + 1) (one_back from)) room
   where
     by_tests : (a b : Bool) → a ≡ false → b ≡ true → (a || not b) ≡ false

@@ -46,12 +46,12 @@ use Rattle.life_plans.specs.KeyPartLaws.{found_deadline_lives, unchanged_stays, 
 use Rattle.list_plans.specs.declared.sight.ListSight.{ListSight}
 use Rattle.list_plans.specs.ListLives.{list_found, list_on, item_rows, IsListAt, SeesList}
 use Rattle.list_plans.specs.ListLifeLaws.{sees_list, found_within, list_meta, none_meta, list_stands}
-use Rattle.list_plans.specs.ListRows.{has_room, ChangesRows, end_index, tail_pushed, tail_popped}
+use Rattle.list_plans.specs.ListRows.{end_has_room, ChangesRows, end_index, tail_pushed, tail_popped}
 use Rattle.list_plans.specs.ListPlans.{list_batch, list_plan, sight_text}
 use Rattle.list_plans.specs.ListChangeLaws.{left_there, left_gone, left_large, list_goes_on, list_writes}
 use Rattle.list_changes.specs.Ends.{sight_pushed, sight_popped, is_too_long}
 use Rattle.list_changes.specs.EndLaws.{popped_size, pushed_size, popped_tail, pushed_tail, pushed_low, room_ready}
-use Rattle.list_changes.specs.Found.{item_raw, end_of, item_found}
+use Rattle.list_changes.specs.Found.{item_raw, item_at_end, item_found}
 use Rattle.list_moves.specs.Moves.{Moves}
 use Rattle.list_moves.specs.Planned.{leaving, next_index, turned_rows, sight_turned, turning, brought, moving, moving_item, by_lists, move_plan}
 use Rattle.list_moves.specs.MoveEndLaws.{popped_low, popped_room, turned_short, popped_there}
@@ -255,10 +255,10 @@ module _ {c : Rows} {t : ℕ} (fresh : ℕ) {d : Command} {a b : Bytes} {from to
           moves.head m a list.head
           ∙ (λ i. cond (one i) (head_pushed to 1 (cond (same_itself a i) (head_popped from list.head) list.head)) (cond (same_itself a i) (head_popped from list.head) list.head))
 
-      turned_room : IsTrue (has_room to (sight_popped from list) 1)
+      turned_room : IsTrue (end_has_room to (sight_popped from list) 1)
       turned_room = popped_room from to list (room_at Left) (room_at Right)
         where
-          room_at : (end : End) → IsTrue (has_room end list 1)
+          room_at : (end : End) → IsTrue (end_has_room end list 1)
           room_at end = room_ready c t fresh d a end (Some list) 1 ready (is_named a (first_among a b)) found (omega arith) (omega arith)
 
       turned_tail : tail_pushed to 1 (tail_popped from list.tail) ≡ head_pushed to 1 (head_popped from list.head) + length next
@@ -301,7 +301,7 @@ module _ {c : Rows} {t : ℕ} (fresh : ℕ) {d : Command} {a b : Bytes} {from to
       abbrev more : List Bytes
       more = pushed to target (v ∷ [])
 
-      room : has_room to list_b 1 ≡ true
+      room : end_has_room to list_b 1 ≡ true
       room = room_ready c t fresh d b to found_b 1 ready (is_named b (second_among a b)) is_b (omega arith) (omega arith)
 
       more_length : length more ≡ (list_b.tail - list_b.head) + 1
@@ -369,14 +369,14 @@ module _ {c : Rows} {t : ℕ} (fresh : ℕ) {d : Command} {a b : Bytes} {from to
             tail_b = pushed_tail to list_b target (v ∷ []) stands_b.ends room
 
         -- by the tests of the plan
-        by_tests : (l r : Bool) → nat_lt max_size ((list_b.tail - list_b.head) + 1) ≡ l → has_room to list_b 1 ≡ r → Plans (with_rows rows (l || not r))
+        by_tests : (l r : Bool) → nat_lt max_size ((list_b.tail - list_b.head) + 1) ≡ l → end_has_room to list_b 1 ≡ r → Plans (with_rows rows (l || not r))
         by_tests true r e f =
             refused TooLarge (brings n (Err TooLarge) is (left_large n b more (subst (λ (x : ℕ). max_size < x) (sym more_length) (above ((list_b.tail - list_b.head) + 1) e))))
         by_tests false true e f = fits_more e
         by_tests false false e f = let no : true ≡ false = sym room ∙ f in absurd (cc)
 
         moved_with : Plans (with_rows rows (is_too_long to list_b 1))
-        moved_with = by_tests (nat_lt max_size ((list_b.tail - list_b.head) + 1)) (has_room to list_b 1) refl refl
+        moved_with = by_tests (nat_lt max_size ((list_b.tail - list_b.head) + 1)) (end_has_room to list_b 1) refl refl
 
       -- the rows of the items that stay at the first key
       abbrev rows_left : Batch
@@ -440,7 +440,7 @@ module _ {c : Rows} {t : ℕ} (fresh : ℕ) {d : Command} {a b : Bytes} {from to
 
   -- by what is found at both keys
   by_found : (s u : Outcome (Option ListSight)) (x y : Outcome (List Bytes)) → list_found (live_at c t a) ≡ s → list_found (live_at c t b) ≡ u → at_key lists m a ≡ x → at_key lists m b ≡ y → SeesList c a s x → SeesList c b u y
-      → Plans (by_lists t old other (λ list target. moving_item t a b old other from to list (list_on fresh target) (item_found (end_of c a from) s)) s u)
+      → Plans (by_lists t old other (λ list target. moving_item t a b old other from to list (list_on fresh target) (item_found (item_at_end c a from) s)) s u)
   by_found (Err e) u (Err x) y is is_b at at_b sees sees_b =
       subst (λ (f : ReplyError). Plans (leaving t old other (reply.Error f))) (sym sees) (refused x (comes_to (Err x) y (seen_there means a ∙ list_there (live_at c t a) e is) at at_b))
   by_found (Err e) u (Ok items) y is is_b at at_b sees sees_b = absurd sees

@@ -14,7 +14,7 @@ use Rattle.lives_model.specs.Rows.{Rows, Elements}
 use Rattle.life_plans.specs.WantedRows.{wanted}
 use Rattle.list_plans.specs.declared.sight.ListSight.{ListSight}
 use Rattle.list_plans.specs.ListLives.{item_rows, IsListAt}
-use Rattle.list_plans.specs.ListRows.{end_index, has_room, ChangesRows}
+use Rattle.list_plans.specs.ListRows.{end_index, end_has_room, ChangesRows}
 use Rattle.list_plans.specs.ListRowLaws.{before_changes, cut_from_changes, pop_changes, push_changes, changes_nothing}
 use Rattle.list_changes.specs.Ends.{sight_popped}
 use Rattle.list_changes.specs.Found.{item_raw}
@@ -60,7 +60,7 @@ module _ (c : Rows) (k : Bytes) (short : IsTrue (is_key k)) (list : ListSight) (
   taken_changes end some = pop_changes c k list.version short fits items list.head low_end (λ subkey. is.rows Elements subkey) end list refl is.ends some
 
   -- an item comes to an end
-  pub brought_changes : (end : End) (v : Bytes) → IsTrue (has_room end list 1) → ChangesRows c k list.version (insert empty (item_raw k list (next_index end list)) (Some v)) (item_rows (pushed end items (v ∷ [])) (head_pushed end 1 list.head))
+  pub brought_changes : (end : End) (v : Bytes) → IsTrue (end_has_room end list 1) → ChangesRows c k list.version (insert empty (item_raw k list (next_index end list)) (Some v)) (item_rows (pushed end items (v ∷ [])) (head_pushed end 1 list.head))
   unfolding wanted
   brought_changes Left v room = push_changes c k list.version short fits items list.head low_end (λ subkey. is.rows Elements subkey) Left list (v ∷ []) refl is.ends room
   brought_changes Right v room = push_changes c k list.version short fits items list.head low_end (λ subkey. is.rows Elements subkey) Right list (v ∷ []) refl is.ends room
@@ -73,7 +73,7 @@ module _ (c : Rows) (k : Bytes) (short : IsTrue (is_key k)) (list : ListSight) (
       (changes_nothing c k list.version (item_rows items list.head) (λ subkey. is.rows Elements subkey)))
 
   -- an item goes from an end to an end
-  pub turned_changes : (from to : End) (v : Bytes) → 0 < length items → (popped from items).0 ≡ Some v → IsTrue (has_room to (sight_popped from list) 1)
+  pub turned_changes : (from to : End) (v : Bytes) → 0 < length items → (popped from items).0 ≡ Some v → IsTrue (end_has_room to (sight_popped from list) 1)
       → ChangesRows c k list.version (turned_rows k from to list v) (item_rows (pushed to (popped from items).1 (v ∷ [])) (head_pushed to 1 (head_popped from list.head)))
   turned_changes Left Left v some there room = same_end Left v ((list.head + 1) - 1) some there (omega arith)
   turned_changes Right Right v some there room = same_end Right v list.head some there refl

@@ -18,6 +18,6 @@ pub record IsPlace (t : ℕ) (k : Bytes) (place : Place) : Type 0 where
   pub list : IsSightOn place.list
 
 -- what was found at this key
-pub record IsSought (t : ℕ) (k : Bytes) (sought : Sought) : Type 0 where
+pub record IsSoughtList (t : ℕ) (k : Bytes) (sought : Sought) : Type 0 where
   pub key : sought.key ≡ k
   pub found : IsFoundList t sought.found

@@ -19,7 +19,7 @@ use Rattle.list_plans.specs.ListRows.{end_index}
 use Rattle.list_plans.specs.ListPlans.{list_batch, list_plan}
 use Rattle.list_changes.specs.declared.found.ListFound.{ListFound}
 use Rattle.list_changes.specs.Ends.{sight_pushed, sight_popped, is_too_long}
-use Rattle.list_changes.specs.Found.{item_raw, found_at, end_of, item_found}
+use Rattle.list_changes.specs.Found.{item_raw, found_at, item_at_end, item_found}
 
 -- the plan that answers and writes nothing; the two keys have these deadlines
 abbrev pub leaving : ℕ → Option ℕ → Option ℕ → Reply → Plan
@@ -53,8 +53,8 @@ turning t k old from to list v =
 -- ---- two lists
 
 -- the item at an end of the list at the first key goes, and the key with the last one
-abbrev pub taken : Bytes → Option ℕ → End → ListSight → Batch
-taken k old end list =
+abbrev pub item_taken : Bytes → Option ℕ → End → ListSight → Batch
+item_taken k old end list =
     if list.tail - list.head == 1 then meta_batch k None
     else list_batch k old (sight_popped end list) (insert empty (item_raw k list (end_index end list)) None)
 
@@ -67,7 +67,7 @@ brought k old end list v b = list_batch k old (sight_pushed end 1 list) (insert 
 abbrev pub moving : ℕ → Bytes → Bytes → Option ℕ → Option ℕ → End → End → ListSight → ListSight → Bytes → Plan
 moving t a b old other from to list target v =
     if is_too_long to target 1 then leaving t old other (reply.Error TooLarge)
-    else record { reply = reply.Bulk v; batch = brought b other to target v (taken a old from list); until = least_above t (old ∷ other ∷ []) }
+    else record { reply = reply.Bulk v; batch = brought b other to target v (item_taken a old from list); until = least_above t (old ∷ other ∷ []) }
 
 -- ---- by what is found
 
@@ -91,4 +91,4 @@ moving_found t fresh a b from to source target item =
 
 -- RPOPLPUSH and LMOVE
 unfoldable pub move_plan : Rows → ℕ → ℕ → Bytes → Bytes → End → End → Plan
-move_plan c t fresh a b from to = moving_found t fresh a b from to (found_at c t a) (found_at c t b) (item_found (end_of c a from) (found_at c t a).list)
+move_plan c t fresh a b from to = moving_found t fresh a b from to (found_at c t a) (found_at c t b) (item_found (item_at_end c a from) (found_at c t a).list)

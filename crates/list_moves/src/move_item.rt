@@ -3,14 +3,14 @@
 ghost use Rattle.std.specs.Prelude.{◌≡◌, IfOk, IfSome, IsTrue};
 ghost use Rattle.kv_base.specs.Map.{same};
 ghost use Rattle.kv_base.specs.RawKeys.{is_version};
-ghost use Rattle.list_moves.specs.Places.{IsPlace, IsSought};
+ghost use Rattle.list_moves.specs.Places.{IsPlace, IsSoughtList};
 ghost use Rattle.list_moves.specs.Planned.{leaving, move_plan, moving, moving_found, moving_item, turning};
 ghost use Rattle.list_plans.specs.ListLives.{IsSightWithin};
 ghost use Rattle.lives_model.specs.Views.{ReadsView};
 ghost use Rattle.redis_model.specs.Limits.{IsShort};
 
 use crate::place::{Place, Sought};
-use crate::rows::{bring, taken, turned_rows};
+use crate::rows::{bring, item_taken, turned_rows};
 use batch_codec::Batch;
 use kv_base::{Blob, Key, NoMem, StoreFault};
 use list_changes::{
@@ -77,8 +77,8 @@ fn moving_found(
     item: Option<Blob>,
 ) -> Result<Plan, NoMem>
     requires fresh { IsTrue (is_version fresh) }
-    requires source { IsSought moment source.now leaves }
-    requires target { IsSought moment target.now comes }
+    requires source { IsSoughtList moment source.now leaves }
+    requires target { IsSoughtList moment target.now comes }
     ensures { IfOk result (λ plan. plan ≡ moving_found moment fresh source.now target.now leaves.end comes.end leaves.found comes.found item) }
 {
     let old = leaves.found.deadline;
@@ -204,7 +204,7 @@ fn moving(
         return Ok(leaving(alloc, moment, leaves.deadline, comes.deadline, too_large));
     }
     let until = until_of(moment, leaves.deadline, comes.deadline);
-    let mut batch = taken(alloc, moment, source, leaves)?;
+    let mut batch = item_taken(alloc, moment, source, leaves)?;
     bring(alloc, &mut batch, moment, target, comes, &item)?;
     let batch = batch.build()?;
     Ok(Plan {

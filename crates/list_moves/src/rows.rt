@@ -4,10 +4,10 @@ ghost use Rattle.std.specs.Prelude.{◌≡◌, IfOk, IsTrue, OnOk};
 ghost use Rattle.kv_base.specs.MetaValues.{is_deadline};
 ghost use Rattle.list_changes.specs.Ends as ends;
 ghost use Rattle.list_moves.specs.Places.{IsPlace};
-ghost use Rattle.list_moves.specs.Planned.{brought, next_index, taken, turned_rows};
+ghost use Rattle.list_moves.specs.Planned.{brought, next_index, item_taken, turned_rows};
 ghost use Rattle.list_plans.specs.ListLives.{IsSightWithin};
 ghost use Rattle.list_plans.specs.ListPlans.{list_batch};
-ghost use Rattle.list_plans.specs.ListRows.{has_room};
+ghost use Rattle.list_plans.specs.ListRows.{end_has_room};
 ghost use Rattle.plan_base.specs.MetaRows.{expire_number};
 ghost use Rattle.redis_model.specs.Limits.{IsShort};
 ghost use Rattle.redis_model.specs.Value.{lives};
@@ -48,7 +48,7 @@ fn put_list(
 
 /// A batch that takes the item at an end away from its list, and the key with the last one.
 #[tactic(auto, using(list_changes::specs::EndLaws::popped_within))]
-pub(crate) fn taken(
+pub(crate) fn item_taken(
     alloc: Global,
     moment: u64,
     key: &Key,
@@ -56,7 +56,7 @@ pub(crate) fn taken(
 ) -> Result<BatchBuilder, NoMem>
     requires place { IsPlace moment key.now place }
     requires list { IsSightWithin place.list }
-    ensures { IfOk result (λ batch. batch ≡ taken key.now place.deadline place.end place.list) }
+    ensures { IfOk result (λ batch. batch ≡ item_taken key.now place.deadline place.end place.list) }
 {
     let Place {
         key: raw,
@@ -84,7 +84,7 @@ pub(crate) fn taken(
 /// The index of one more item at an end.
 #[tactic(auto, using(list_changes::specs::ItemLaws::room_before))]
 fn next_index(end: End, list: ListSight) -> u64
-    requires { IsTrue (has_room end list 1) }
+    requires { IsTrue (end_has_room end list 1) }
     ensures { result ≡ next_index end list }
 {
     match end {
@@ -103,7 +103,7 @@ pub(crate) fn bring(
     item: &Blob,
 ) -> Result<(), NoMem>
     requires place { IsPlace moment key.now place }
-    requires room { IsTrue (has_room place.end place.list 1) }
+    requires room { IsTrue (end_has_room place.end place.list 1) }
     requires within { IsSightWithin (ends.sight_pushed place.end 1 place.list) }
     requires short { IsShort item.now }
     ensures { OnOk result (batch.new ≡ brought key.now place.deadline place.end place.list item.now batch.old) }
@@ -136,7 +136,7 @@ pub(crate) fn turned_rows(
     item: &Blob,
 ) -> Result<BatchBuilder, NoMem>
     requires list { IsSightWithin list }
-    requires room { IsTrue (has_room to (ends.sight_popped from list) 1) }
+    requires room { IsTrue (end_has_room to (ends.sight_popped from list) 1) }
     requires short { IsShort item.now }
     ensures { IfOk result (λ rows. rows ≡ turned_rows key.now from to list item.now) }
 {

@@ -22,8 +22,8 @@ pub index_is_key : (n : ℕ) → IsTrue (is_key (u64 n))
 index_is_key n = short_number (length (u64 n)) (length-u64 n)
 
 -- an index is read back
-pub index_is_read : (n : ℕ) → n < 2 ^ 64 → read_u64 (u64 n) ≡ Some (n, [])
-index_is_read n low = ap read_u64 (sym (append-nil (u64 n))) ∙ u64_is_read n low []
+pub index_bytes_are_read : (n : ℕ) → n < 2 ^ 64 → read_u64 (u64 n) ≡ Some (n, [])
+index_bytes_are_read n low = ap read_u64 (sym (append-nil (u64 n))) ∙ u64_is_read n low []
 
 -- the same bytes are the same index
 same_index : (a b : ℕ) → a < 2 ^ 64 → b < 2 ^ 64 → same (u64 a) (u64 b) ≡ (a == b)
@@ -32,7 +32,7 @@ same_index a b low high = by_test (a == b) refl (same (u64 a) (u64 b)) refl
     by_test : (t : Bool) → (a == b) ≡ t → (s : Bool) → same (u64 a) (u64 b) ≡ s → s ≡ t
     by_test true e s is = sym is ∙ ap (λ (n : ℕ). same (u64 n) (u64 b)) (number_is a b e) ∙ same_itself (u64 b)
     by_test false e true is =
-        let read = same_some (a, []) (b, []) (sym (index_is_read a low) ∙ ap read_u64 (same_is (u64 a) (u64 b) is) ∙ index_is_read b high) in
+        let read = same_some (a, []) (b, []) (sym (index_bytes_are_read a low) ∙ ap read_u64 (same_is (u64 a) (u64 b) is) ∙ index_bytes_are_read b high) in
         let here : a ≡ b = ap (λ p. p.0) read in
         let yes : (a == b) ≡ true = grind (arith, nat_tests, here) in
         absurd (cc)
@@ -46,7 +46,7 @@ at_index items head n = cond (nat_le head n) (slice_get items (n - head)) None
 
 -- under the index as a subkey
 pub index_row : (items : List Bytes) (head n : ℕ) → n < 2 ^ 64 → item_rows items head (u64 n) ≡ at_index items head n
-index_row items head n low = ap (item_row items head) (index_is_read n low)
+index_row items head n low = ap (item_row items head) (index_bytes_are_read n low)
 
 -- Two lists that differ at one index have rows that differ under one subkey.
 pub one_row : (items changed : List Bytes) (head new i : ℕ) (row : Option Bytes) → i < 2 ^ 64
@@ -57,7 +57,7 @@ one_row items changed head new i row low at subkey = by_read (read_u64 subkey) r
     apart o e other = by_test (same subkey (u64 i)) refl
       where
         by_test : (s : Bool) → same subkey (u64 i) ≡ s → s ≡ false
-        by_test true is = absurd (other (sym (index_is_read i low) ∙ ap read_u64 (sym (same_is subkey (u64 i) is)) ∙ e))
+        by_test true is = absurd (other (sym (index_bytes_are_read i low) ∙ ap read_u64 (sym (same_is subkey (u64 i) is)) ∙ e))
         by_test false is = refl
 
     by_read : (o : Option (ℕ × Bytes)) → read_u64 subkey ≡ o → item_row changed new o ≡ cond (same subkey (u64 i)) row (item_row items head o)
@@ -86,8 +86,8 @@ from_tail items head n h = by_test (nat_le head n)
     by_test false = refl
 
 -- an item between them
-pub at_place : (items : List Bytes) (head i : ℕ) → at_index items head (head + i) ≡ slice_get items i
-at_place items head i =
+pub at_list_place : (items : List Bytes) (head i : ℕ) → at_index items head (head + i) ≡ slice_get items i
+at_list_place items head i =
     let low : nat_le head (head + i) ≡ true = grind (arith, nat_tests) in
     let place : (head + i) - head ≡ i = omega arith in
     ap (λ b. cond b (slice_get items ((head + i) - head)) None) low ∙ ap (slice_get items) place

@@ -29,7 +29,7 @@ use Rattle.plan_base.specs.LifePlanLaws.{one_key_ahead}
 use Rattle.list_plans.specs.declared.sight.ListSight.{ListSight}
 use Rattle.list_plans.specs.ListLives.{list_found, items_found, IsListAt, IsListOf, SeesList}
 use Rattle.list_plans.specs.ListLifeLaws.{sees_list}
-use Rattle.list_plans.specs.ListIndexLaws.{index_row, at_place}
+use Rattle.list_plans.specs.ListIndexLaws.{index_row, at_list_place}
 use Rattle.list_plans.specs.ListPlans.{by_list}
 
 -- ---- what stands there
@@ -45,7 +45,7 @@ pub item_is_there : (c : Rows) (k : Bytes) (list : ListSight) (items : List Byte
 item_is_there c k list items i is within =
     let ends = is.ends in
     let low = is.low in
-    is.rows Elements (u64 (list.head + i)) ∙ index_row items list.head (list.head + i) (omega (arith, ends, low, within)) ∙ at_place items list.head i
+    is.rows Elements (u64 (list.head + i)) ∙ index_row items list.head (list.head + i) (omega (arith, ends, low, within)) ∙ at_list_place items list.head i
 
 -- the values of rows are those of the items
 values_are : (side_rows : List (Bytes × Bytes)) (k : Bytes) (version : ℕ) → map (λ row. row.1) (in_life Elements k version side_rows) ≡ map (λ row. row.1) side_rows

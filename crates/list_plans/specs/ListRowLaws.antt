@@ -20,8 +20,8 @@ use Rattle.plan_base.specs.LifeChangeLaws.{wants_nothing, wants_one, with_elemen
 use Rattle.life_plans.specs.WantedRows.{Wish, with_wish, wanted}
 use Rattle.list_plans.specs.declared.sight.ListSight.{ListSight}
 use Rattle.list_plans.specs.ListLives.{item_rows}
-use Rattle.list_plans.specs.ListRows.{end_index, has_room, puts_before, puts_from, pushes, cuts_from, cuts_before, trims, set_row, ChangesRows}
-use Rattle.list_plans.specs.ListIndexLaws.{index_is_key, index_row, one_row, at_index, before_head, from_tail, at_place, item_there, one_before, one_behind, first_gone, last_gone, one_set}
+use Rattle.list_plans.specs.ListRows.{end_index, end_has_room, puts_before, puts_from, pushes, cuts_from, cuts_before, trims, set_row, ChangesRows}
+use Rattle.list_plans.specs.ListIndexLaws.{index_is_key, index_row, one_row, at_index, before_head, from_tail, at_list_place, item_there, one_before, one_behind, first_gone, last_gone, one_set}
 
 -- ---- lists
 
@@ -125,7 +125,7 @@ module _ (c : Rows) (k : Bytes) (version : ℕ) (short : IsTrue (is_key k)) (fit
     cut_differs : (i : ℕ) → i < length items → row_differs c (row_key Elements k version (u64 (head + i))) None ≡ true
     cut_differs i within =
         let v = item_there items i within in
-        ap (λ o. not (same_row o None)) (there (u64 (head + i)) ∙ index_row items head (head + i) (omega arith) ∙ at_place items head i ∙ v.1)
+        ap (λ o. not (same_row o None)) (there (u64 (head + i)) ∙ index_row items head (head + i) (omega arith) ∙ at_list_place items head i ∙ v.1)
 
     -- items are put before the head
     pub before_changes : (vs now : List Bytes) (at : ℕ) (b : Batch) → length vs ≤ at → at ≤ head → ChangesRows c k version b (item_rows now at)
@@ -196,7 +196,7 @@ module _ (c : Rows) (k : Bytes) (version : ℕ) (short : IsTrue (is_key k)) (fit
         (cut_before_changes 1 head items (head + length items) empty refl (omega arith) (omega arith) (omega arith) (changes_nothing c k version (item_rows items head) there))
 
     -- items are pushed at an end
-    pub push_changes : (end : End) (list : ListSight) (vs : List Bytes) → list.head ≡ head → list.tail ≡ head + length items → IsTrue (has_room end list (length vs))
+    pub push_changes : (end : End) (list : ListSight) (vs : List Bytes) → list.head ≡ head → list.tail ≡ head + length items → IsTrue (end_has_room end list (length vs))
         → ChangesRows c k version (wanted k version (pushes end list vs)) (item_rows (pushed end items vs) (head_pushed end (length vs) head))
     unfolding wanted
     push_changes Left list vs begins ends room =

@@ -29,9 +29,9 @@ end_index Left list = list.head
 end_index Right list = list.tail - 1
 
 -- the indices of n more items at an end are numbers of 64 bits
-abbrev pub has_room : End → ListSight → ℕ → Bool
-has_room Left list n = nat_le n list.head
-has_room Right list n = nat_lt (list.tail + n) (2 ^ 64)
+abbrev pub end_has_room : End → ListSight → ℕ → Bool
+end_has_room Left list n = nat_le n list.head
+end_has_room Right list n = nat_lt (list.tail + n) (2 ^ 64)
 
 -- ---- the rows
 

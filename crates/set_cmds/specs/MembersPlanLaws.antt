@@ -1,7 +1,6 @@
 -- The plans of SADD and SREM.
 use Rattle.std.proofs.Common.{ℕ, ◌≡◌, ◌-◌, refl, sym, ap, ◌∙◌, false, List, [], ◌∷◌}
-use Rattle.std.proofs.lemmas.List.Elements.{All-head}
-use Rattle.std.specs.Prelude.{not, Option, Some, None, Ok, IsTrue, All}
+use Rattle.std.specs.Prelude.{not, Option, Some, None, Ok, IsTrue}
 use Rattle.kv_base.specs.Map.{Bytes, Set, get, empty, keep, size, get-empty, get-keep, kept}
 use Rattle.kv_base.specs.RawKeys.{is_key}
 use Rattle.kv_base.specs.declared.kind.Kind.TheVariants as code
@@ -12,7 +11,7 @@ use Rattle.redis_model.specs.Value.{RedisMap}
 use Rattle.redis_model.specs.Outcome.{Outcome, number, sets}
 use Rattle.redis_model.specs.Sets.{with_members, add_members, remove_members}
 use Rattle.redis_model.specs.Keys.{among}
-use Rattle.redis_model.specs.Limits.{IsWithin, IsName}
+use Rattle.redis_model.specs.Limits.{IsWithin}
 use Rattle.redis_model.specs.Apply.{carried_out}
 use Rattle.lives_model.specs.Rows.{Rows}
 use Rattle.lives_model.specs.Clean.{live_at}
@@ -21,7 +20,7 @@ use Rattle.lives_model.specs.OwnKeyLaws.{no_size, empty_is}
 use Rattle.plan_base.specs.Carries.{Carries}
 use Rattle.plan_base.specs.declared.life.LifeSight.{LifeSight}
 use Rattle.plan_base.specs.Seen.{deadline_in}
-use Rattle.plan_base.specs.KeyLimitLaws.{name_is_key}
+use Rattle.plan_base.specs.KeyLimitLaws.{key_is_short}
 use Rattle.plan_base.specs.Retimed.{KeepsLife}
 use Rattle.plan_base.specs.Lives.{HasSizeIn, life_size}
 use Rattle.plan_base.specs.LifeLaws.{set_stands, member_row_of, size_there}
@@ -36,10 +35,6 @@ use Rattle.life_plans.specs.ElementLaws.{set_has_elements}
 use Rattle.life_plans.specs.ChangePlanLaws.{life_changing}
 use Rattle.life_plans.specs.AlikePlanLaws.{changes_alike}
 use Rattle.set_cmds.specs.Planned.{s_add_plan, removing, s_rem_plan}
-
--- the key of a command with one key fits
-key_is_short : (k : Bytes) → All IsName (k ∷ []) → IsTrue (is_key k)
-key_is_short k names = name_is_key k (All-head IsName k [] names)
 
 -- ---- SADD
 

@@ -53,7 +53,7 @@ use Rattle.life_plans.specs.ChangeSizeLaws.{HoldsLife, held, finds_life}
 use Rattle.life_plans.specs.AlikePlanLaws.{found_size}
 use Rattle.life_plans.specs.KeyParts.{PlansKey, Puts, LeavesDeadline}
 use Rattle.life_plans.specs.KeyPartLaws.{no_third_touched, unchanged_stays, named_is_touched, left_gone, gone_part, changed_part, leaves_then, put_is, put_at, put_elsewhere, change_leaves, one_key_plan, two_keys_plan}
-use Rattle.set_cmds.specs.MovePlanned.{until_both, quiet, looking, leaving, joining, moved, moving_found, s_move_plan}
+use Rattle.set_cmds.specs.MovePlanned.{until_both, quiet, looking, member_leaving, joining, member_moved, moving_member_found, s_move_plan}
 
 -- ---- a set with one member more or less
 
@@ -324,7 +324,7 @@ module _ {c : Rows} {t : ℕ} {m : RedisMap} (means : Means c t m) (fresh : ℕ)
     abbrev written : Plan
     written = record { reply = number 1; batch = insert rows (meta_key a) (Some text); until = until_both t old old }
 
-    leaving_is : leaving t fresh a x old (Some life) ≡ cond (size left == 0) gone written
+    leaving_is : member_leaving t fresh a x old (Some life) ≡ cond (size left == 0) gone written
     leaving_is =
         ap (λ n. changing_plan t a code.Set old fresh (Some life) true rows n (number 1)) count
         ∙ by_none (size left == 0) refl
@@ -333,14 +333,14 @@ module _ {c : Rows} {t : ℕ} {m : RedisMap} (means : Means c t m) (fresh : ℕ)
         by_none true e = empty_plan t a old fresh (Some life) rows (size left) (number 1) small e
         by_none false e = filled_plan t a old fresh (Some life) rows (size left) (number 1) small e
 
-    left_batch : (leaving t fresh a x old (Some life)).batch ≡ batch
+    left_batch : (member_leaving t fresh a x old (Some life)).batch ≡ batch
     left_batch = ap (λ p. p.batch) leaving_is ∙ by_none (size left == 0)
       where
         by_none : (none : Bool) → (cond none gone written).batch ≡ cond none (meta_batch a None) (insert rows (meta_key a) (Some text))
         by_none true = refl
         by_none false = refl
 
-    left_reply : (leaving t fresh a x old (Some life)).reply ≡ number 1
+    left_reply : (member_leaving t fresh a x old (Some life)).reply ≡ number 1
     left_reply = ap (λ p. p.reply) leaving_is ∙ by_none (size left == 0)
       where
         by_none : (none : Bool) → (cond none gone written).reply ≡ number 1
@@ -473,9 +473,9 @@ module _ {c : Rows} {t : ℕ} {m : RedisMap} (means : Means c t m) (fresh : ℕ)
         (λ i. cond (l i) (Err TooLarge) (cond (size more == 0) (Ok (remove between b)) (Ok (insert between b entry_target))))
         ∙ ap (λ z. cond large (Err TooLarge) (cond z (Ok (remove between b)) (Ok (insert between b entry_target)))) filled
 
-    moved_by : (y : Bool) → has u x ≡ y → Plans (moved t fresh a b x old old_target (Some life) target y)
+    moved_by : (y : Bool) → has u x ≡ y → Plans (member_moved t fresh a b x old old_target (Some life) target y)
     moved_by true known =
-        subst (λ (r : Batch). IsPlanOf c t fresh m d r (leaving t fresh a x old (Some life)).reply (until_both t old old_target)) (sym left_batch)
+        subst (λ (r : Batch). IsPlanOf c t fresh m d r (member_leaving t fresh a x old (Some life)).reply (until_both t old old_target)) (sym left_batch)
         (subst (λ (r : Reply). IsPlanOf c t fresh m d batch r (until_both t old old_target)) (sym left_reply)
         (known_plan (insert between b entry_target) (second_by false few) known))
       where
@@ -487,7 +487,7 @@ module _ {c : Rows} {t : ℕ} {m : RedisMap} (means : Means c t m) (fresh : ℕ)
     moved_by false new = by_size (nat_lt max_size (size more)) refl
       where
         rows_are : Batch
-        rows_are = insert (leaving t fresh a x old (Some life)).batch (row_key Elements b (life_on fresh target).version x) (Some [])
+        rows_are = insert (member_leaving t fresh a x old (Some life)).batch (row_key Elements b (life_on fresh target).version x) (Some [])
 
         count_target : size_after target 1 0 ≡ size more
         count_target =
@@ -495,7 +495,7 @@ module _ {c : Rows} {t : ℕ} {m : RedisMap} (means : Means c t m) (fresh : ℕ)
             let grown = size_with u x new in
             omega (arith, here, grown)
 
-        by_size : (large : Bool) → nat_lt max_size (size more) ≡ large → Plans (looking (until_both t old old_target) (joining t fresh b x old_target target (leaving t fresh a x old (Some life)).batch))
+        by_size : (large : Bool) → nat_lt max_size (size more) ≡ large → Plans (looking (until_both t old old_target) (joining t fresh b x old_target target (member_leaving t fresh a x old (Some life)).batch))
         by_size true l =
             subst (λ (p : Plan). Plans (looking (until_both t old old_target) p))
             (sym (ap (λ n. changing_plan t b code.Set old_target fresh target true rows_are n (number 1)) count_target ∙ large_plan t b old_target fresh target rows_are (size more) (number 1) l))
@@ -533,7 +533,7 @@ module _ {c : Rows} {t : ℕ} {m : RedisMap} (means : Means c t m) (fresh : ℕ)
       → life_found code.Set (live_at c t b) ≡ Ok target → at_key sets m b ≡ Ok u
       → carried_out m t d ≡ move_member m a b x s u
       → (here there : Bool) → has s x ≡ here → has u x ≡ there
-      → Plans (cond (not here) (quiet until (number 0)) (cond (same a b) (quiet until (number 1)) (moved t fresh a b x old old_target (Some life) target there)))
+      → Plans (cond (not here) (quiet until (number 0)) (cond (same a b) (quiet until (number 1)) (member_moved t fresh a b x old old_target (Some life) target there)))
   by_member life target s u is at is_target at_target on false there e f =
       idle (number 0) (on ∙ ap (λ y. cond (not y) (Ok (number 0, m)) (cond (same a b) (Ok (number 1, m)) (change sets m a (remove s x) >>= λ n. change sets n b (insert u x tt) >>= λ o. Ok (number 1, o)))) e)
   by_member life target s u is at is_target at_target on true there e f = by_same (same a b) refl
@@ -541,7 +541,7 @@ module _ {c : Rows} {t : ℕ} {m : RedisMap} (means : Means c t m) (fresh : ℕ)
       comes_on : carried_out m t d ≡ cond (same a b) (Ok (number 1, m)) (change sets m a (remove s x) >>= λ n. change sets n b (insert u x tt) >>= λ o. Ok (number 1, o))
       comes_on = on ∙ ap (λ y. cond (not y) (Ok (number 0, m)) (cond (same a b) (Ok (number 1, m)) (change sets m a (remove s x) >>= λ n. change sets n b (insert u x tt) >>= λ o. Ok (number 1, o)))) e
 
-      by_same : (y : Bool) → same a b ≡ y → Plans (cond y (quiet until (number 1)) (moved t fresh a b x old old_target (Some life) target there))
+      by_same : (y : Bool) → same a b ≡ y → Plans (cond y (quiet until (number 1)) (member_moved t fresh a b x old old_target (Some life) target there))
       by_same true h = idle (number 1) (comes_on ∙ ap (λ y. cond y (Ok (number 1, m)) (change sets m a (remove s x) >>= λ n. change sets n b (insert u x tt) >>= λ o. Ok (number 1, o))) h)
       by_same false h =
           moved_by h life target s u is at e is_target at_target
@@ -551,7 +551,7 @@ module _ {c : Rows} {t : ℕ} {m : RedisMap} (means : Means c t m) (fresh : ℕ)
   by_target : (life : LifeSight) (s : Set) → life_found code.Set (live_at c t a) ≡ Ok (Some life) → at_key sets m a ≡ Ok s → SeesLife sets member_row_of c a (Ok (Some life)) (Ok s)
       → carried_out m t d ≡ (at_key sets m b >>= λ u. move_member m a b x s u)
       → (r : Outcome (Option LifeSight)) → life_found code.Set (live_at c t b) ≡ r → (o : Outcome Set) → at_key sets m b ≡ o → SeesLife sets member_row_of c b r o
-      → Plans (moving_found c t fresh a b x old old_target (Ok (Some life)) r)
+      → Plans (moving_member_found c t fresh a b x old old_target (Ok (Some life)) r)
   by_target life s is at sees on (Err e) is_target (Err y) at_target same_error =
       refused e (on ∙ ap (λ r. r >>= λ u. move_member m a b x s u) at_target ∙ ap (λ (z : ReplyError). Err z) (sym same_error))
   by_target life s is at sees on (Ok target) is_target (Err y) at_target odd = absurd odd
@@ -562,7 +562,7 @@ module _ {c : Rows} {t : ℕ} {m : RedisMap} (means : Means c t m) (fresh : ℕ)
 
   -- anything
   by_source : (r : Outcome (Option LifeSight)) → life_found code.Set (live_at c t a) ≡ r → (o : Outcome Set) → at_key sets m a ≡ o → SeesLife sets member_row_of c a r o
-      → Plans (moving_found c t fresh a b x old old_target r (life_found code.Set (live_at c t b)))
+      → Plans (moving_member_found c t fresh a b x old old_target r (life_found code.Set (live_at c t b)))
   by_source (Err e) is (Err y) at same_error =
       refused e (comes_there (error_is_there y at) ∙ ap (λ r. r >>= λ s. at_key sets m b >>= λ u. move_member m a b x s u) at ∙ ap (λ (z : ReplyError). Err z) (sym same_error))
   by_source (Ok found) is (Err y) at odd = absurd odd
@@ -580,7 +580,7 @@ pub s_move_carries : (c : Rows) (t fresh : ℕ) (a b x : Bytes) (w : ℕ) → Is
 unfolding s_move_plan
 s_move_carries c t fresh a b x w within = record { plan = plan }
   where
-    plan : (m : RedisMap) → Means c t m → IsReady c t fresh (One (cmd.SMove a b x w)) → let p = moving_found c t fresh a b x (deadline_in (live_at c t a)) (deadline_in (live_at c t b)) (life_found code.Set (live_at c t a)) (life_found code.Set (live_at c t b)) in IsPlanOf c t fresh m (cmd.SMove a b x w) p.batch p.reply p.until
+    plan : (m : RedisMap) → Means c t m → IsReady c t fresh (One (cmd.SMove a b x w)) → let p = moving_member_found c t fresh a b x (deadline_in (live_at c t a)) (deadline_in (live_at c t b)) (life_found code.Set (live_at c t a)) (life_found code.Set (live_at c t b)) in IsPlanOf c t fresh m (cmd.SMove a b x w) p.batch p.reply p.until
     plan m means ready =
         by_source means fresh a b x w within ready.fits
         (ready.above a (ap (λ s. s || (same a b || false)) (same_itself a)))

@@ -43,14 +43,14 @@ abbrev pub set_changing : ℕ → (Option ℕ → Option LifeSight → Plan) →
 set_changing t plan found = by_life t found.deadline (plan found.deadline) found.life
 
 -- by the rows that it wants; the answer is told by the number of members afterwards
-abbrev pub wanting : Rows → ℕ → ℕ → Bytes → Option ℕ → Option LifeSight → Batch → (ℕ → Reply) → Plan
-wanting c t fresh k old found rows answer =
+abbrev pub changing_members : Rows → ℕ → ℕ → Bytes → Option ℕ → Option LifeSight → Batch → (ℕ → Reply) → Plan
+changing_members c t fresh k old found rows answer =
     let count = size_after found (added_rows c rows) (removed_rows c rows) in
     changing_plan t k code.Set old fresh found false (differing c rows) count (answer count)
 
 -- SADD: a member that is named twice is one member; where all are there nothing is written
 abbrev pub adding : Rows → ℕ → ℕ → Bytes → List Bytes → Option ℕ → Option LifeSight → Plan
-adding c t fresh k xs old found = wanting c t fresh k old found (wanted k (life_on fresh found).version (joins xs)) (λ count. number (count - life_size found))
+adding c t fresh k xs old found = changing_members c t fresh k old found (wanted k (life_on fresh found).version (joins xs)) (λ count. number (count - life_size found))
 
 unfoldable pub s_add_plan : Rows → ℕ → ℕ → Bytes → List Bytes → Plan
 s_add_plan c t fresh k xs = set_changing t (adding c t fresh k xs) (set_life c t k)
@@ -58,7 +58,7 @@ s_add_plan c t fresh k xs = set_changing t (adding c t fresh k xs) (set_life c t
 -- SREM: where there is no key nothing is looked up
 abbrev pub removing : Rows → ℕ → ℕ → Bytes → List Bytes → Option ℕ → Option LifeSight → Plan
 removing c t fresh k xs old None = answering t old (number 0)
-removing c t fresh k xs old (Some life) = wanting c t fresh k old (Some life) (wanted k life.version (leaves xs)) (λ count. number (life.size - count))
+removing c t fresh k xs old (Some life) = changing_members c t fresh k old (Some life) (wanted k life.version (leaves xs)) (λ count. number (life.size - count))
 
 unfoldable pub s_rem_plan : Rows → ℕ → ℕ → Bytes → List Bytes → Plan
 s_rem_plan c t fresh k xs = set_changing t (removing c t fresh k xs) (set_life c t k)

@@ -6,7 +6,7 @@ ghost use Rattle.kv_base.specs.RawKeys.{is_version};
 ghost use Rattle.redis_model.specs.Limits.{IsName};
 ghost use Rattle.lives_model.specs.Views.{ReadsView};
 ghost use Rattle.set_cmds.specs.Found.{IsSetFound};
-ghost use Rattle.set_cmds.specs.MovePlanned.{joining, leaving, looking, moved, moving, quiet, s_move_plan};
+ghost use Rattle.set_cmds.specs.MovePlanned.{joining, member_leaving, looking, member_moved, moving_member, quiet, s_move_plan};
 
 use crate::found::set_found;
 use batch_codec::Batch;
@@ -75,7 +75,7 @@ fn move_found<V: RawView>(
     requires fresh { target.fresh ≡ source.fresh }
     requires member { IsName member.now }
     ensures plan { IfOk result (λ plan. IfSome (V.told view.old).rows
-        (λ c. plan ≡ moving c source.moment source.fresh from.now to.now member.now source.old target.old source.life target.life)) }
+        (λ c. plan ≡ moving_member c source.moment source.fresh from.now to.now member.now source.old target.old source.life target.life)) }
     ensures reads { ReadsView (V.told view.old) (V.told view.new) result }
 {
     let until = until_of(source.moment, source.old, target.old);
@@ -87,12 +87,12 @@ fn move_found<V: RawView>(
         return Ok(quiet(alloc, until, Reply::Int(1)));
     }
     let there = has_in_life(alloc, view, to, target.life, member.bytes())?;
-    let plan = moved(alloc, from, to, source, target, member, there)?;
+    let plan = member_moved(alloc, from, to, source, target, member, there)?;
     Ok(plan)
 }
 
 /// The plan of a member that the source has and that goes to another key, by whether it is there.
-fn moved(
+fn member_moved(
     alloc: Global,
     from: &Key,
     to: &Key,
@@ -106,10 +106,10 @@ fn moved(
     requires moment { target.moment ≡ source.moment }
     requires fresh { target.fresh ≡ source.fresh }
     requires member { IsName member.now }
-    ensures { IfOk result (λ plan. plan ≡ moved source.moment source.fresh from.now to.now member.now source.old target.old source.life target.life there) }
+    ensures { IfOk result (λ plan. plan ≡ member_moved source.moment source.fresh from.now to.now member.now source.old target.old source.life target.life there) }
 {
     let until = until_of(source.moment, source.old, target.old);
-    let left = leaving(alloc, from, source, member)?;
+    let left = member_leaving(alloc, from, source, member)?;
     if there {
         return Ok(looking(left, until));
     }
@@ -119,10 +119,10 @@ fn moved(
 }
 
 /// The plan of a set that loses a member which it has.
-fn leaving(alloc: Global, key: &Key, found: LifeFound, member: &Blob) -> Result<Plan, NoMem>
+fn member_leaving(alloc: Global, key: &Key, found: LifeFound, member: &Blob) -> Result<Plan, NoMem>
     requires found { IsSetFound found key.now }
     requires member { IsName member.now }
-    ensures { IfOk result (λ plan. plan ≡ leaving found.moment found.fresh key.now member.now found.old found.life) }
+    ensures { IfOk result (λ plan. plan ≡ member_leaving found.moment found.fresh key.now member.now found.old found.life) }
 {
     let version = life_version(found.fresh, found.life);
     let rows = wanted_one(alloc, key, version, member.bytes(), None)?;

@@ -136,20 +136,20 @@ union_are c ss xs are =
 -- ---- the answer
 
 -- the set that sets come to together
-abbrev pub together : Combination → List Set → Set
-together Inter xs = inter xs
-together Union xs = union xs
-together Diff xs = diff xs
+abbrev pub combined_by : Combination → List Set → Set
+combined_by Inter xs = inter xs
+combined_by Union xs = union xs
+combined_by Diff xs = diff xs
 
 -- its members, in order
-pub combined_are : (c : Rows) (how : Combination) (ss : List SetAt) (xs : List Set) → AreSets c ss xs → combined_members c how ss ≡ keys (together how xs)
+pub combined_are : (c : Rows) (how : Combination) (ss : List SetAt) (xs : List Set) → AreSets c ss xs → combined_members c how ss ≡ keys (combined_by how xs)
 unfolding combined_members
 combined_are c Inter ss xs are = inter_are c ss xs are
 combined_are c Union ss xs are = ap keys (union_are c ss xs are)
 combined_are c Diff ss xs are = diff_are c ss xs are
 
 reply_is : (c : Rows) (m : RedisMap) (how : Combination) (ss : List SetAt) (error : Option ReplyError) (o : Outcome (List Set)) → SeesSets c ss error o
-    → members_reply (members_or error (combined_members c how ss)) ≡ (answered m (o >>= λ xs. Ok (bulks (keys (together how xs)), m))).0
+    → members_reply (members_or error (combined_members c how ss)) ≡ (answered m (o >>= λ xs. Ok (bulks (keys (combined_by how xs)), m))).0
 reply_is c m how ss None (Ok xs) are = ap bulks (combined_are c how ss xs are)
 reply_is c m how ss (Some e) (Err x) are = ap reply.Error are
 reply_is c m how ss None (Err x) are = absurd are
@@ -158,7 +158,7 @@ reply_is c m how ss (Some e) (Ok xs) are = absurd are
 -- ---- the plans
 
 combining_carries : (c : Rows) (t fresh : ℕ) (d : Command) (how : Combination) (ks : List Bytes) → IsFalse (writes d) → keys_of d ≡ ks
-    → ((m : RedisMap) → carried_out m t d ≡ combined m (together how) ks) → Carries c t fresh d (combining_plan c t how ks)
+    → ((m : RedisMap) → carried_out m t d ≡ combined m (combined_by how) ks) → Carries c t fresh d (combining_plan c t how ks)
 unfolding apply combining_plan
 combining_carries c t fresh d how ks reads names is = record {
   plan = λ m means ready.

@@ -29,14 +29,14 @@ abbrev pub emptied_batch : Bytes → Bool → Batch
 emptied_batch k there = if there then meta_batch k None else empty
 
 -- the members are put in a new life without a deadline, with the metadata; too many are not
-abbrev pub stored_batch : Bytes → ℕ → List Bytes → Batch
-stored_batch k fresh xs = if nat_lt max_size (length xs) then empty else insert (wanted k fresh (joins xs)) (meta_key k) (Some (life_text code.Set None fresh (length xs)))
+abbrev pub result_batch : Bytes → ℕ → List Bytes → Batch
+result_batch k fresh xs = if nat_lt max_size (length xs) then empty else insert (wanted k fresh (joins xs)) (meta_key k) (Some (life_text code.Set None fresh (length xs)))
 
 -- the plan by the members that are to be stored at a key
 abbrev pub storing : Bytes → ℕ → Bool → Option ℕ → List Bytes → Plan
 storing k fresh there until xs = record {
   reply = stored_reply xs;
-  batch = if length xs == 0 then emptied_batch k there else stored_batch k fresh xs;
+  batch = if length xs == 0 then emptied_batch k there else result_batch k fresh xs;
   until = until;
 }
 

@@ -41,7 +41,7 @@ use Rattle.life_plans.specs.StoredSetLaws.{stored_plan}
 use Rattle.set_operations.specs.declared.combine.Combination.{Combination}
 use Rattle.set_operations.specs.declared.combine.Combination.TheVariants.{Inter, Union, Diff}
 use Rattle.set_operations.specs.Combined.{combined_members, first_error, members_or, set_lives, soonest}
-use Rattle.set_operations.specs.CombinedLaws.{combined_are, together}
+use Rattle.set_operations.specs.CombinedLaws.{combined_are, combined_by}
 use Rattle.set_operations.specs.SetListLaws.{SeesSets, sees_sets, soonest_is}
 use Rattle.set_operations.specs.Stored.{ComesToNames, emptied_batch, store_plan, storing, storing_or}
 
@@ -68,7 +68,7 @@ until_is c t k ks = ap (sooner t (deadline_in (live_at c t k))) (soonest_is c t 
 -- ---- a command that stores what sets come to
 
 module _ (c : Rows) (t fresh : ℕ) (d : Command) (how : Combination) (k : Bytes) (ks : List Bytes) (stores : IsTrue (is_store d)) (named : keys_of d ≡ k ∷ ks) (short : IsTrue (is_key k))
-    (rewrites : (m n : RedisMap) → written_again m n d ≡ if_there n k) (is : (m : RedisMap) → carried_out m t d ≡ stored m (together how) k ks) where
+    (rewrites : (m n : RedisMap) → written_again m n d ≡ if_there n k) (is : (m : RedisMap) → carried_out m t d ≡ stored m (combined_by how) k ks) where
   -- how far ahead the plan is right
   abbrev until : Option ℕ
   until = sooner t (deadline_in (live_at c t k)) (soonest t (set_lives c t ks))
@@ -106,12 +106,12 @@ module _ (c : Rows) (t fresh : ℕ) (d : Command) (how : Combination) (k : Bytes
 
   -- by what is found of the sets
   by_sets : {m : RedisMap} (means : Means c t m) (ready : IsReady c t fresh (One d)) (error : Option ReplyError) (o : Outcome (List Set)) → SeesSets c (zip ks (set_lives c t ks)) error o
-      → carried_out m t d ≡ (o >>= λ xs. put sets m k (together how xs) None >>= λ n. Ok (number (size (together how xs)), n))
+      → carried_out m t d ≡ (o >>= λ xs. put sets m k (combined_by how xs) None >>= λ n. Ok (number (size (combined_by how xs)), n))
       → let members = members_or error (combined_members c how (zip ks (set_lives c t ks))) in IfOk members (λ xs. All IsName xs) → Plans m (storing_or k fresh (is_some (live_at c t k)) until members)
   by_sets {m} means ready None (Ok xs) are comes names =
       let members = combined_are c how (zip ks (set_lives c t ks)) xs are in
       subst (λ (qs : List Bytes). Plans m (storing k fresh (is_some (live_at c t k)) until qs)) (sym members)
-      (set_plan means ready (together how xs) (subst (λ (qs : List Bytes). All IsName qs) members names) comes)
+      (set_plan means ready (combined_by how xs) (subst (λ (qs : List Bytes). All IsName qs) members names) comes)
   by_sets means ready (Some e) (Err x) same comes names = error_plan means e x same comes
   by_sets means ready None (Err x) are comes names = absurd are
   by_sets means ready (Some e) (Ok xs) are comes names = absurd are

@@ -4,7 +4,7 @@ ghost use Rattle.std.specs.Prelude.{◌≡◌, ◌<◌, All, IfOk, IfSome, IsTru
 ghost use Rattle.kv_base.specs.RawKeys.{is_version};
 ghost use Rattle.redis_model.specs.Limits.{IsName};
 ghost use Rattle.lives_model.specs.Views.{ReadsView};
-ghost use Rattle.set_operations.specs.Stored.{ComesToNames, emptied_batch, store_plan, stored_batch, stored_reply, storing, storing_or};
+ghost use Rattle.set_operations.specs.Stored.{ComesToNames, emptied_batch, store_plan, result_batch, stored_reply, storing, storing_or};
 
 use crate::combine::{Combination, combined_at};
 use crate::sets::{look_at_sets, soonest};
@@ -148,7 +148,7 @@ fn filled(alloc: Global, target: Target<'_>, members: &[Blob]) -> Result<Plan, N
     requires names { All IsName members.now }
     requires some { 0 < length members.now }
     ensures reply { IfOk result (λ plan. plan.reply ≡ stored_reply members.now) }
-    ensures batch { IfOk result (λ plan. plan.batch ≡ stored_batch target.entry.meta target.entry.version members.now) }
+    ensures batch { IfOk result (λ plan. plan.batch ≡ result_batch target.entry.meta target.entry.version members.now) }
 {
     let Target {
         key,

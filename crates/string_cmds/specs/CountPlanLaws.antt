@@ -27,11 +27,10 @@ use Rattle.plan_base.specs.Seen.{deadline_in, string_in}
 use Rattle.plan_base.specs.SeenLaws.{seen_deadline, seen_string}
 use Rattle.plan_base.specs.KeyStepLaws.{touched_again}
 use Rattle.plan_base.specs.KeyPlanLaws.{refused_plan, string_plan, found_deadline_fits, live_is_found}
-use Rattle.plan_base.specs.KeyLimitLaws.{name_is_key}
+use Rattle.plan_base.specs.KeyLimitLaws.{among_itself, name_is_key}
 use Rattle.string_cmds.specs.Planned.{idle, putting, by_string, appending, append_plan, counting, incr_plan}
 use Rattle.string_cmds.specs.Carried.{CarriesOut}
 use Rattle.string_cmds.specs.CarriedLaws.{with_one_key, name_within}
-use Rattle.string_cmds.specs.SetPlanLaws.{among_itself}
 
 -- ---- APPEND
 

@@ -25,12 +25,11 @@ use Rattle.plan_base.specs.MetaRows.{meta_batch, live_row, expire_number}
 use Rattle.plan_base.specs.KeyStepLaws.{touched_again, touched_differs}
 use Rattle.plan_base.specs.Retimed.{KeepsLife}
 use Rattle.plan_base.specs.KeyPlanLaws.{still_plan, retimed_plan, found_deadline_fits, live_is_found, set_deadline_fits}
-use Rattle.plan_base.specs.KeyLimitLaws.{name_is_key}
+use Rattle.plan_base.specs.KeyLimitLaws.{among_itself, name_is_key}
 use Rattle.meta_codec.specs.Metas.{with_expire}
 use Rattle.string_cmds.specs.Planned.{expire_plan, persisting, persist_plan}
 use Rattle.string_cmds.specs.Carried.{CarriesOut}
 use Rattle.string_cmds.specs.CarriedLaws.{with_one_key, name_within, given_time}
-use Rattle.string_cmds.specs.SetPlanLaws.{among_itself}
 
 -- the entry of a key that is there has the deadline of its metadata
 entry_deadline : {c : Rows} {t : ℕ} {m : RedisMap} (means : Means c t m) (k : Bytes) (e : Entry) (meta : MetaValue) → get m k ≡ Some e → live_at c t k ≡ Some meta → e.deadline ≡ deadline_in (Some meta)

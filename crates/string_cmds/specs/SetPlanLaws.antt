@@ -1,6 +1,6 @@
 -- The plans of commands that set a string over whatever the key held, or take one away.
 use Rattle.std.proofs.Common.{◌≡◌, ℕ, refl, sym, ap, ◌∙◌, Bool, true, false, cond, [], ◌∷◌}
-use Rattle.std.specs.Prelude.{◌≢◌, Option, Some, None, Ok, Err, IsTrue, IsFalse, is_some, ◌||◌}
+use Rattle.std.specs.Prelude.{◌≢◌, Option, Some, None, Ok, Err, IsTrue, IsFalse, is_some}
 use Rattle.kv_base.specs.Map.{Bytes, same_itself, get, has, insert, remove, get-insert}
 use Rattle.kv_base.specs.MetaValues.{MetaValue, StringValue, LifeValue, ListValue}
 use Rattle.redis_model.specs.declared.reply.Reply.TheVariants as reply
@@ -25,14 +25,10 @@ use Rattle.plan_base.specs.Seen.{deadline_in, string_in}
 use Rattle.plan_base.specs.SeenLaws.{seen_there, seen_none, seen_deadline, seen_string}
 use Rattle.plan_base.specs.KeyStepLaws.{touched_again, touched_differs}
 use Rattle.plan_base.specs.KeyPlanLaws.{refused_plan, still_plan, string_plan, removed_plan, remove_nothing, found_deadline_fits, live_is_found, set_deadline_fits}
-use Rattle.plan_base.specs.KeyLimitLaws.{name_is_key, short_is_payload}
+use Rattle.plan_base.specs.KeyLimitLaws.{name_is_key, among_itself, short_is_payload}
 use Rattle.string_cmds.specs.Planned.{idle, putting, by_string, taking, set_plan, set_nx_plan, get_set_plan, get_del_plan}
 use Rattle.string_cmds.specs.Carried.{CarriesOut}
 use Rattle.string_cmds.specs.CarriedLaws.{with_one_key, name_within, given_time}
-
--- a key is among itself
-pub among_itself : (k : Bytes) → IsTrue (among (k ∷ []) k)
-among_itself k = ap (λ b. b || false) (same_itself k)
 
 -- ---- SET, SETEX and PSETEX
 
