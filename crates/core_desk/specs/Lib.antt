@@ -1,0 +1,3 @@
+pub mod DeskCalls
+pub mod PinSightLaws
+pub mod DeskCallLaws

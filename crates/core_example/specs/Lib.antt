@@ -1,0 +1,2 @@
+pub mod ExampleRun
+pub mod ExampleRunLaws
