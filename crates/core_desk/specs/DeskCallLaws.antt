@@ -25,7 +25,7 @@ use Rattle.core_model.specs.Runs.{Event, Glance, Read, Commit, Lapse, Rerun, Pla
 use Rattle.core_model.specs.Filtered.{StandsFiltered}
 use Rattle.core_events.specs.GoingLaws.{same_pin}
 use Rattle.core_filter.specs.RunLaws.{event_answers, run_whole}
-use Rattle.core_desk.specs.DeskCalls.{places_of, Asked, ask_for, asked_in, AnswersAsk, AreOfCall}
+use Rattle.core_desk.specs.DeskCalls.{places_of, AskBy, ask_for, asked_in, AnswersAsk, AreOfCall}
 use Rattle.core_desk.specs.PinSightLaws.{ticked_keeps_pin}
 
 -- ---- lists of events
@@ -54,7 +54,7 @@ parted seen core new (e ∷ xs) ys (next, first, rest) =
 -- ---- the event that answers
 
 -- it adds one place, the entry of what was asked
-record HasEntry (pinned : Bool) (e : Event) (a : Asked) : Type 0 where
+record HasEntry (pinned : Bool) (e : Event) (a : AskBy) : Type 0 where
   pub own : Place
   pub only : adds e ≡ own ∷ []
   pub is : own.what ≡ entry_of pinned a.now a.caller a.ask
@@ -98,11 +98,11 @@ module _ (opening : Opening) (core new : CoreState) (seen : List Place) (whole :
   free_seen : (caller : ℕ) → IsNone (pin_at core caller) → has_pin s caller ≡ false
   free_seen caller none = sym (pin_seen caller) ∙ none
 
-  asked_entry : (e : Event) (a : Asked) → Happens seen core e new → asked_in e ≡ Some a → HasEntry (has_pin s a.caller) e a
+  asked_entry : (e : Event) (a : AskBy) → Happens seen core e new → asked_in e ≡ Some a → HasEntry (has_pin s a.caller) e a
   asked_entry e a h is = by_event e h is
     where
-      entry : (e : Event) (own : Place) (x : Asked) → adds e ≡ own ∷ [] → Some x ≡ Some a → own.what ≡ entry_of (has_pin s x.caller) x.now x.caller x.ask → HasEntry (has_pin s a.caller) e a
-      entry e own x only same is = subst (λ (y : Asked). HasEntry (has_pin s y.caller) e y) (same_some x a same) (record { own = own; only = only; is = is })
+      entry : (e : Event) (own : Place) (x : AskBy) → adds e ≡ own ∷ [] → Some x ≡ Some a → own.what ≡ entry_of (has_pin s x.caller) x.now x.caller x.ask → HasEntry (has_pin s a.caller) e a
+      entry e own x only same is = subst (λ (y : AskBy). HasEntry (has_pin s y.caller) e y) (same_some x a same) (record { own = own; only = only; is = is })
 
       by_event : (e : Event) → Happens seen core e new → asked_in e ≡ Some a → HasEntry (has_pin s a.caller) e a
       by_event (Read now caller c answer) h is = entry (Read now caller c answer) _ _ refl is (free_entry now caller (One c) (has_pin s caller) (free_seen caller h.free))
@@ -141,7 +141,7 @@ module _ (opening : Opening) (core new : CoreState) (seen : List Place) (caller 
   abbrev earlier : List Place
   earlier = seen ++ places_of call.before
 
-  abbrev asked : Asked
+  abbrev asked : AskBy
   asked = record { caller = caller; now = now; ask = ask }
 
   -- what is told of that event

@@ -20,7 +20,7 @@ places_of (e ∷ es) = adds e ++ places_of es
 -- ---- the event that answers
 
 -- who asked, at which reading, and what
-pub record Asked : Type 0 where
+pub record AskBy : Type 0 where
   pub caller : ℕ
   pub now : ℕ
   pub ask : Ask
@@ -31,7 +31,7 @@ ask_for (One c) = asks.Call c
 ask_for (Many cs) = asks.Exec cs
 
 -- what an event with a reply answers
-abbrev pub asked_in : Event → Option Asked
+abbrev pub asked_in : Event → Option AskBy
 asked_in (Read now caller c answer) = Some (record { caller = caller; now = now; ask = asks.Call c })
 asked_in (Commit w note) = Some (record { caller = w.caller; now = w.now; ask = ask_for w.ds })
 asked_in (Rerun caller now ds view batch answer note) = Some (record { caller = caller; now = now; ask = ask_for ds })

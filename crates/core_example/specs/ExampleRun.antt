@@ -79,8 +79,8 @@ pinned_core = with_pin (raised flushed 6) 3 None
 abbrev pub second_plan : Plan
 second_plan = set_plan (raised pinned_core 7).floor (live_at (newest_rows pinned_core) (raised pinned_core 7).floor example_key) example_key (50 ∷ []) Any expiry.None
 
-abbrev pub written : CoreState
-written = core_with_batch (raised pinned_core 7) (One second_set) second_plan.batch
+abbrev pub second_written : CoreState
+second_written = core_with_batch (raised pinned_core 7) (One second_set) second_plan.batch
 
 -- ---- a compaction of level 0
 
@@ -102,13 +102,13 @@ example_job = record {
   run = 2;
   level = 0;
   choice = example_choice;
-  all = rows_in written.sources;
-  watch = watchers written;
-  rows = kept_rows (watchers written) (together (flushed_table ∷ [])) (all_rows (in_levels ([] ∷ [] ∷ [] ∷ []))) (rows_in written.sources);
+  all = rows_in second_written.sources;
+  watch = watchers second_written;
+  rows = kept_rows (watchers second_written) (together (flushed_table ∷ [])) (all_rows (in_levels ([] ∷ [] ∷ [] ∷ []))) (rows_in second_written.sources);
 }
 
 abbrev pub compacting : CoreState
-compacting = record written { compact = Some example_job; next_run = 3 }
+compacting = record second_written { compact = Some example_job; next_run = 3 }
 
 abbrev pub compacted_table : Table
 compacted_table = record { run = 2; part = 0; rows = example_job.rows }

@@ -34,7 +34,7 @@ use Rattle.core_model.specs.Runs.{IsCoreRun}
 use Rattle.core_model.specs.Core.{newest_rows, raised}
 use Rattle.core_model.specs.Opened.{new_core}
 use Rattle.core_model.specs.Events.{Glances, Commits, Freezes, InstallsFlush, Pins, PlaysCommands, BeginsCompact, InstallsCompact, LooksPinned, Reads, tick}
-use Rattle.core_example.specs.ExampleRun.{example_key, first_set, second_set, example_get, glanced, first_view, first_plan, first_work, committed, frozen, flushed_table, flushed, pinned_core, second_plan, written, example_job, compacting, compacted_table, compacted, kept_plan, looked, newest_plan, example_end, example_run}
+use Rattle.core_example.specs.ExampleRun.{example_key, first_set, second_set, example_get, glanced, first_view, first_plan, first_work, committed, frozen, flushed_table, flushed, pinned_core, second_plan, second_written, example_job, compacting, compacted_table, compacted, kept_plan, looked, newest_plan, example_end, example_run}
 
 -- ---- the commands can be asked for
 
@@ -145,7 +145,7 @@ second_fits = refl
 second_planned : IsPlanned (newest_rows pinned_core) (raised pinned_core 7).floor 1 (One second_set) second_plan.batch second_plan.reply second_plan.until
 second_planned = record { plan = λ m means ready. (set_carries (newest_rows pinned_core) (raised pinned_core 7).floor _ example_key (50 ∷ []) Any expiry.None 0 second_within).law m means }
 
-plays : PlaysCommands pinned_core written 1 7 (One second_set) second_plan.batch second_plan.reply (Appended 2)
+plays : PlaysCommands pinned_core second_written 1 7 (One second_set) second_plan.batch second_plan.reply (Appended 2)
 plays = record {
   own = record { free = refl; asked = (second_within, tt); rows = second_rows };
   until = second_plan.until;
@@ -161,7 +161,7 @@ nothing_below rows row other here there = absurd (omega (arith, here.1))
 nothing_above : (rows : List Row) → AreBelow rows []
 nothing_above rows row other here there = absurd (omega (arith, there.1))
 
-begins : BeginsCompact kept_rows written compacting 2 example_job
+begins : BeginsCompact kept_rows second_written compacting 2 example_job
 begins = record {
   none = refl;
   own = refl;
@@ -217,7 +217,7 @@ reads = record {
 
 pub example_runs : IsCoreRun [] new_core example_run example_end
 example_runs =
-    (glanced, glances, (committed, commits, (frozen, freezes, (flushed, installs_flush, (pinned_core, pins, (written, plays, (compacting, begins, (compacted, installs, (looked, looks, (example_end, reads, refl))))))))))
+    (glanced, glances, (committed, commits, (frozen, freezes, (flushed, installs_flush, (pinned_core, pins, (second_written, plays, (compacting, begins, (compacted, installs, (looked, looks, (example_end, reads, refl))))))))))
 
 -- The caller with a pin reads the first value,
 pub kept_value_is_read : kept_plan.reply ≡ reply.Bulk (49 ∷ [])

@@ -4,3 +4,5 @@ pub mod Reopened
 pub mod Output
 pub mod Running
 pub mod Serving
+pub mod Attending
+pub mod ServingAll

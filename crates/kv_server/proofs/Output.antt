@@ -15,10 +15,10 @@ use Rattle.session.specs.Input.{IsOff}
 use Rattle.session.specs.InputLaws.{ends_input}
 use Rattle.session.specs.Quits.{has_quit}
 use Rattle.session.specs.QuitLaws.{has_quit-none}
-use Rattle.session.specs.Session.{Session, IsCaused, end_line}
+use Rattle.session.specs.Session.{Session, IsCaused}
 use Rattle.session.specs.Talk.{Talks, answers_text}
 use Rattle.kv_server.specs.Dialog.{StoreState}
-use Rattle.kv_server.specs.Outside.{Outside}
+use Rattle.kv_server.specs.Outside.{Outside, client_of}
 use Rattle.kv_server.specs.Script.{status, first_readings, AreTold, Ran, Talked, OutputOf, IsAnswered, IsRejected, HasFront, IsComplete, EndsBadly, IsWhole}
 use Rattle.kv_server.proofs.Talk.{IsForOne, store_at, talk_is, talks_later}
 
@@ -48,7 +48,7 @@ went_at told sequence alone old new served answers opening before stood talk =
 
 -- what a session took, answered and wrote
 pub ran_at : {D : Type 0} (told : D → DeskState) (o : Outcome) (d d' : D) (old new : Outside) → Session told o d d' old.left new.left old.held new.held old.ended new.ended
-    → (r : Ran o old new) × Talks told d d' r.served r.answers
+    → (r : Ran o (client_of old) (client_of new)) × Talks told d d' r.served r.answers
 unfolding Session
 ran_at told o d d' old new p = (record { taken = p.taken; served = p.served; answers = p.answers; line = p.line; took = p.took; limit = p.limit; ends = p.ends; wrote = p.wrote }, p.talk)
 
@@ -69,7 +69,7 @@ ends_badly input served line off = (ap has_quit (sym off.all) ∙ has_quit-none 
 
 module _ (n : ℕ) (s t : StoreState) (old new : Outside) where
   -- the input was read to its end, or to a QUIT
-  pub closed_output : (o : Outcome) (l : Known) → n ≡ status o → (p : Ran o (record old { left = l }) new) → Talked s t p.served p.answers old.readings new.readings → n ≡ 0 → IsAnswered s t l old.readings old.held new.held
+  pub closed_output : (o : Outcome) (l : Known) → n ≡ status o → (p : Ran o (client_of (record old { left = l })) (client_of new)) → Talked s t p.served p.answers old.readings new.readings → n ≡ 0 → IsAnswered s t l old.readings old.held new.held
   closed_output outcome.Closed None is p talked zero = tt
   closed_output outcome.Closed (Some input) is p talked zero =
       let q = ends_input outcome.Closed input p.taken new.left p.served p.line old.ended new.ended p.took p.ends in
@@ -82,7 +82,7 @@ module _ (n : ℕ) (s t : StoreState) (old new : Outside) where
   closed_output outcome.Spent l is p talked zero = absurd (omega (arith, is, zero))
 
   -- the sink failed
-  pub broken_output : (o : Outcome) (l : Known) → n ≡ status o → (p : Ran o (record old { left = l }) new) → Talked s t p.served p.answers old.readings new.readings → n ≡ 6 → HasFront s t p.served p.answers l old.readings old.held new.held
+  pub broken_output : (o : Outcome) (l : Known) → n ≡ status o → (p : Ran o (client_of (record old { left = l })) (client_of new)) → Talked s t p.served p.answers old.readings new.readings → n ≡ 6 → HasFront s t p.served p.answers l old.readings old.held new.held
   broken_output outcome.WriteFault None is p talked six = tt
   broken_output outcome.WriteFault (Some input) is p talked six = record {
     line = p.line;
@@ -99,7 +99,7 @@ module _ (n : ℕ) (s t : StoreState) (old new : Outside) where
   broken_output outcome.Spent l is p talked six = absurd (omega (arith, is, six))
 
   -- the input is off the grammar, or ends inside a request
-  pub protocol_output : (o : Outcome) (l : Known) → n ≡ status o → (p : Ran o (record old { left = l }) new) → Talked s t p.served p.answers old.readings new.readings → n ≡ 7 → IsRejected s t p.served p.answers l old.readings old.held new.held
+  pub protocol_output : (o : Outcome) (l : Known) → n ≡ status o → (p : Ran o (client_of (record old { left = l })) (client_of new)) → Talked s t p.served p.answers old.readings new.readings → n ≡ 7 → IsRejected s t p.served p.answers l old.readings old.held new.held
   protocol_output outcome.Protocol None is p talked seven = tt
   protocol_output outcome.Protocol (Some input) is p talked seven =
       let off = ends_input outcome.Protocol input p.taken new.left p.served p.line old.ended new.ended p.took p.ends in
@@ -120,7 +120,7 @@ complete_or_bad input complete bad =
     complete
 
 -- an input that is whole is answered, unless the source or the sink failed or memory ran out
-pub whole_is_answered : (o : Outcome) (n : ℕ) (l : Known) (old new : Outside) → n ≡ status o → Ran o (record old { left = l }) new → IsCaused o old.source new.source old.sink new.sink → IsWhole l → (Rose old.source new.source → ⊥) → (Rose old.sink new.sink → ⊥) → (n ≡ 0) ⊎ (n ≡ 4)
+pub whole_is_answered : (o : Outcome) (n : ℕ) (l : Known) (old new : Outside) → n ≡ status o → Ran o (client_of (record old { left = l })) (client_of new) → IsCaused o old.source new.source old.sink new.sink → IsWhole l → (Rose old.source new.source → ⊥) → (Rose old.sink new.sink → ⊥) → (n ≡ 0) ⊎ (n ≡ 4)
 whole_is_answered outcome.Closed n l old new is p c whole read written = inl is
 whole_is_answered outcome.NoMem n l old new is p c whole read written = inr is
 whole_is_answered outcome.ReadFault n l old new is p c whole read written = absurd (read c)

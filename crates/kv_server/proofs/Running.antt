@@ -1,6 +1,6 @@
 -- What a run says, by its status.
-use Rattle.std.proofs.Common.{◌≡◌, ◌≢◌, ◌≤◌, ℕ, List, [], inl, inr, ◌⊎◌, ⊎_elim, refl, sym, ap, subst, ◌∙◌, arith}
-use Rattle.kv_base.specs.Map.{Bytes}
+use Rattle.std.proofs.Common.{◌≡◌, ◌≢◌, ◌≤◌, ℕ, List, [], inl, inr, ◌⊎◌, ⊎_elim, refl, sym, subst, ◌∙◌, arith}
+use Rattle.std.specs.Prelude.{Contains}
 use Rattle.kv_base.specs.declared.fault.StoreFault.{StoreFault}
 use Rattle.kv_base.specs.declared.fault.StoreFault.TheVariants as fault
 use Rattle.kv_outside.specs.Causes.{Rose}
@@ -15,7 +15,7 @@ use Rattle.redis_model.specs.Machine.{State}
 use Rattle.redis_model.specs.Value.{RedisMap}
 use Rattle.log_store.specs.Keeping.{KeptState, state_of, FailsToOpen, HoldsKeys, IsKept, IsOpened, StandsFor, Keeps, KeepsOrMore}
 use Rattle.log_store.specs.KeepLaws.{keeps_keys_or_more, opened_stands, stands_comes_at}
-use Rattle.kv_server.specs.Dialog.{StoreState}
+use Rattle.kv_server.specs.Dialog.{StoreState, OneFailed}
 use Rattle.kv_server.specs.Outside.{Outside}
 use Rattle.kv_server.specs.Script.{status, opening_status, unclosed_status, EndsWith, TellsFault, IsWritten, IsRun, IsGood, IsFaultTold, IsFront, IsDamageTold, IsWhole, IsSession, LeavesKeys, Opened, Went, store_of, store_from}
 use Rattle.kv_server.proofs.Output.{closed_output, broken_output, protocol_output, whole_is_answered}
@@ -154,18 +154,18 @@ ends_since o n first before now later (inl is) = inl is
 ends_since o n first before now later (inr closing) = inr (closing.0, rose_since first before now later closing.1)
 
 -- what the log of a store comes to is what the store stands for
-comes_to_store : (disk : Disk) (k : KeptState) (s : State) (faults : ℕ) → StandsFor k s → Keeps disk k → LeavesKeys disk (store_of s k faults)
+pub comes_to_store : (disk : Disk) (k : KeptState) (s : State) (faults : ℕ) → StandsFor k s → Keeps disk k → LeavesKeys disk (store_of s k faults)
 comes_to_store disk k s faults stands keeps = record { each = λ c image. stands_comes_at k s stands c (keeps.each c image) }
 
 -- A store was opened on this outside, a session was served from the disk and the count of the opening on, and the store was
 -- closed on that which the session left.
 pub served_run : (n : ℕ) (old : Outside) (opened : Disk) (f1 : ℕ) (ended : Outside) (new : Disk) (f3 : ℕ) (k k' : KeptState) (o : Outcome)
     → IsOpened old.disk opened k → old.files ≤ f1 → f1 ≤ ended.files → ended.files ≤ f3
-    → (IsKept opened k [] → IsSession o k k' (record old { disk = opened; files = f1 }) ended) → IsCaused o old.source ended.source old.sink ended.sink
+    → ((before : List Cmds) → IsKept opened k before → IsSession before o k k' (record old { disk = opened; files = f1 }) ended) → IsCaused o old.source ended.source old.sink ended.sink
     → EndsWith o n ended.files f3 → (n ≡ 0 → (failed : List Cmds) → IsKept ended.disk k' failed → Keeps new k') → ((failed : List Cmds) → IsKept ended.disk k' failed → Keeps new k' ⊎ KeepsOrMore new k' failed)
     → IsRun n old (record ended { disk = new; files = f3 })
 served_run n old opened f1 ended new f3 k k' o opening later more closing session caused ends closed unclosed =
-    let went = session opening.keeps in
+    let went = session [] opening.keeps in
     inr (record {
       outcome = o;
       ran = record { taken = went.ran.taken; served = went.ran.served; answers = went.ran.answers; line = went.ran.line; took = went.ran.took; limit = went.ran.limit; ends = went.ran.ends; wrote = went.ran.wrote };
@@ -174,7 +174,11 @@ served_run n old opened f1 ended new f3 k k' o opening later more closing sessio
       opened = record { start = state_of k; begins = opening.start; faults = f1; since = later; holds = λ keys holds. leads_to went keys holds };
     })
   where
-    leads_to : (went : IsSession o k k' (record old { disk = opened; files = f1 }) ended) (keys : RedisMap) → HoldsKeys (state_of k) keys
+    one_of_these : (ds : Cmds) (went : IsSession [] o k k' (record old { disk = opened; files = f1 }) ended) → Contains [] ds ⊎ OneFailed went.ran.served went.ran.answers ds → OneFailed went.ran.served went.ran.answers ds
+    one_of_these ds went (inl none) = absurd (omega (arith, none.1))
+    one_of_these ds went (inr one) = one
+
+    leads_to : (went : IsSession [] o k k' (record old { disk = opened; files = f1 }) ended) (keys : RedisMap) → HoldsKeys (state_of k) keys
         → Went n (record ended { disk = new; files = f3 }) went.ran.served went.ran.answers old.readings (store_from (state_of k) keys f1)
     leads_to went keys holds =
         let on = went.leads (record { keys = keys; floor = k.written; pins = [] }) (opened_stands old.disk opened k opening keys holds) in
@@ -185,7 +189,7 @@ served_run n old opened f1 ended new f3 k k' o opening later more closing sessio
           kept = λ zero. comes_to_store new k' on.state ended.files on.stands (closed zero went.keeps.failed went.keeps.keeps);
           kept_or_more = record {
             failed = went.keeps.failed;
-            were = went.keeps.were;
+            were = λ ds among. one_of_these ds went (went.keeps.were ds among);
             leaves = ⊎_elim
                 (λ (all : Keeps new k'). inl (comes_to_store new k' on.state ended.files on.stands all))
                 (λ (more : KeepsOrMore new k' went.keeps.failed). inr (keeps_keys_or_more new k' on.state went.keeps.failed on.stands more))

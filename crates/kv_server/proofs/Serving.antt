@@ -1,6 +1,5 @@
 -- A session at the desk of a store that is kept by a log.
-use Rattle.std.proofs.Common.{◌≡◌, ◌≤◌, [], ℕ, Bool, List, Option, ⊎_elim, sym, ap, subst, arith}
-use Rattle.std.specs.Prelude.{Contains}
+use Rattle.std.proofs.Common.{◌≡◌, ◌≤◌, [], ℕ, Bool, List, sym, ap, subst, arith}
 use Rattle.kv_base.specs.Map.{Bytes}
 use Rattle.kv_outside.specs.Disk.{Disk}
 use Rattle.redis_model.specs.declared.command.Cmds.{Cmds}
@@ -12,7 +11,6 @@ use Rattle.session.specs.declared.session.Outcome.{Outcome}
 use Rattle.session.specs.Session.{Session}
 use Rattle.session.specs.Talk.{Talks}
 use Rattle.log_store.specs.Keeping.{KeptState, IsKept, StandsFor}
-use Rattle.kv_server.specs.Dialog.{OneFailed}
 use Rattle.kv_server.specs.Outside.{Outside}
 use Rattle.kv_server.specs.Script.{IsSession, LeadsOn}
 use Rattle.kv_server.specs.Standing.{DeskParts}
@@ -34,25 +32,23 @@ parts_are : (d : DeskParts) (k : KeptState) (disk : Disk) (faults : ℕ) (readin
     → d ≡ record d { kept = k; disk = disk; faults = faults; readings = readings }
 parts_are d k disk faults readings kept_is disk_is faults_is readings_is = λ i. record d { kept = kept_is i; disk = disk_is i; faults = faults_is i; readings = readings_is i }
 
-none_there : (ds : Cmds) → Contains [] ds → ⊥
-none_there ds none = omega (arith, none.1)
-
 module _ {D : Type 0} (parts : D → DeskParts) where
   pub served_by : (o : Outcome) (d d' : D) (k k' : KeptState) (old new : Outside)
       → (parts d).kept ≡ k → (parts d).disk ≡ old.disk → (parts d).faults ≡ old.files → (parts d).readings ≡ old.readings
       → (parts d').kept ≡ k' → (parts d').disk ≡ new.disk → (parts d').faults ≡ new.files → (parts d').readings ≡ new.readings
       → (parts d).sequence ≡ k.sequence → (parts d).sequence ≤ last_sequence
-      → Session (told_at parts) o d d' old.left new.left old.held new.held old.ended new.ended → IsKept old.disk k [] → IsSession o k k' old new
-  served_by o d d' k k' old new kept disk faults readings kept' disk' faults' readings' met limit session keeps =
+      → Session (told_at parts) o d d' old.left new.left old.held new.held old.ended new.ended
+      → (before : List Cmds) → IsKept old.disk k before → IsSession before o k k' old new
+  served_by o d d' k k' old new kept disk faults readings kept' disk' faults' readings' met limit session before keeps =
       let begins = parts_are (parts d) k old.disk old.files old.readings kept disk faults readings in
       let ends = parts_are (parts d') k' new.disk new.files new.readings kept' disk' faults' readings' in
       let r = ran_at (told_at parts) o d d' old new session in
-      let on = kept_on (told_at parts) d d' [] r.0.served r.0.answers (subst (λ (p : DeskParts). IsKept p.disk p.kept []) (sym begins) keeps) r.1 in
+      let on = kept_on (told_at parts) d d' before r.0.served r.0.answers (subst (λ (p : DeskParts). IsKept p.disk p.kept before) (sym begins) keeps) r.1 in
       record {
         ran = r.0;
         keeps = record {
           failed = on.failed;
-          were = λ ds among. ⊎_elim (λ (none : Contains [] ds). absurd (none_there ds none)) (λ (one : OneFailed r.0.served r.0.answers ds). one) (on.were ds among);
+          were = on.were;
           keeps = subst (λ (q : DeskParts). IsKept q.disk q.kept on.failed) ends on.kept;
         };
         leads = λ s stands.

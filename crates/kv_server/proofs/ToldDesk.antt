@@ -1,5 +1,5 @@
 -- What is told of the desk of a store that is kept by a log.
-use Rattle.std.proofs.Common.{◌≡◌, ◌≤◌, ◌<◌, ◌+◌, ℕ, zero, suc, Bool, cond, inl, inr, List, [], ◌∷◌, Option, None, Result, Ok, Err, ⊎_elim, refl, sym, ap, subst, ◌∙◌, arith}
+use Rattle.std.proofs.Common.{◌≡◌, ◌≤◌, ◌<◌, ◌+◌, ℕ, zero, suc, inl, inr, List, [], Result, Ok, Err, ⊎_elim, refl, sym, ap, subst, ◌∙◌, arith}
 use Rattle.std.specs.Prelude.{IsFalse, IfOk, IfErr, OnOk, OnErr}
 use Rattle.kv_base.specs.Map.{empty, size-empty}
 use Rattle.redis_model.specs.declared.command.Command.{Command}

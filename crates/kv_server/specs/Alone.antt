@@ -14,7 +14,7 @@ use Rattle.redis_model.specs.Legal.{IsLegal}
 use Rattle.redis_model.specs.Asks as ask
 use Rattle.redis_model.specs.Desk.{Follows, LeavesPlaces}
 use Rattle.redis_model.specs.Places.{steps_of, state_at, sequences, GoUp}
-use Rattle.log_store.specs.Playing.{batches, batches_of}
+use Rattle.log_store.specs.Playing.{batches_of}
 
 -- each entry is a call of the caller 0
 abbrev pub IsOwnCall : Step → Type 0

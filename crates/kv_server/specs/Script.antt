@@ -26,7 +26,7 @@ use Rattle.redis_model.specs.Value.{RedisMap}
 use Rattle.log_store.specs.Recover.{Recovered}
 use Rattle.log_store.specs.Keeping.{KeptState, HoldsKeys, IsKept, StandsFor, log_file, IsRecovered, IsDamagedLog, FailsToOpen, ComesToKeysAt, KeepsKeysOrMore}
 use Rattle.kv_server.specs.Dialog.{StoreState, Dialog, OneFailed}
-use Rattle.kv_server.specs.Outside.{Outside}
+use Rattle.kv_server.specs.Outside.{Outside, Streams, client_of}
 
 abbrev pub names_script : Option Words → Bool
 names_script (Some (words.Script folder)) = true
@@ -48,7 +48,7 @@ status outcome.Spent = 8
 
 -- A session with a client: the bytes that it took, at most 2^40, the requests in them that it answered, each once and in
 -- order, and what it wrote: the answers, and behind them the line of a fault of the wire.
-pub record Ran (o : Outcome) (old new : Outside) : Type 0 where
+pub record Ran (o : Outcome) (old new : Streams) : Type 0 where
   pub taken : Bytes
   pub served : List (List Bytes)
   pub answers : List Answer
@@ -74,16 +74,16 @@ pub record LeadsOn (old new : KeptState) (faults faults' : ℕ) (s : State) (ser
   pub stands : StandsFor new state
   pub talked : Talked (store_of s old faults) (store_of state new faults') served answers ahead ahead'
 
--- The log keeps the store, but for one batch maybe, of a request among these that was answered with a fault.
-pub record KeepsAllBut (disk : Disk) (store : KeptState) (served : List (List Bytes)) (answers : List Answer) : Type 0 where
+-- The log keeps the store, but for one batch maybe, of a request that failed.
+pub record KeepsAllBut (Failed : Cmds → Type 0) (disk : Disk) (store : KeptState) : Type 0 where
   pub failed : List Cmds
-  pub were : (ds : Cmds) → Contains failed ds → OneFailed served answers ds
+  pub were : (ds : Cmds) → Contains failed ds → Failed ds
   pub keeps : IsKept disk store failed
 
--- A session was served over a store.
-pub record IsSession (o : Outcome) (kept kept' : KeptState) (old new : Outside) : Type 0 where
-  pub ran : Ran o old new
-  pub keeps : KeepsAllBut new.disk kept' ran.served ran.answers
+-- A session was served over a store, before which calls for these commands had failed.
+pub record IsSession (before : List Cmds) (o : Outcome) (kept kept' : KeptState) (old new : Outside) : Type 0 where
+  pub ran : Ran o (client_of old) (client_of new)
+  pub keeps : KeepsAllBut (λ ds. Contains before ds ⊎ OneFailed ran.served ran.answers ds) new.disk kept'
   pub leads : (s : State) → StandsFor kept s → LeadsOn kept kept' old.files new.files s ran.served ran.answers old.readings new.readings
 
 -- ---- what is written, over an input that is told
@@ -198,11 +198,15 @@ pub record Opened (disk : Disk) (files : ℕ) (Holds : StoreState → Type 0) : 
 abbrev pub LeavesKeys : Disk → StoreState → Type 0
 LeavesKeys disk s = CrashLeaves disk log_file (ComesToKeysAt s.sequence s.state.floor s.state.keys)
 
--- It comes to them, or to the keys after one batch more: that of a request among these which was answered with a fault.
-pub record LeavesKeysOrMore (disk : Disk) (s : StoreState) (served : List (List Bytes)) (answers : List Answer) : Type 0 where
+-- It comes to them, or to the keys after one batch more: that of a request that failed.
+pub record LeavesKeysOrOneMore (Failed : Cmds → Type 0) (disk : Disk) (s : StoreState) : Type 0 where
   pub failed : List Cmds
-  pub were : (ds : Cmds) → Contains failed ds → OneFailed served answers ds
+  pub were : (ds : Cmds) → Contains failed ds → Failed ds
   pub leaves : LeavesKeys disk s ⊎ KeepsKeysOrMore disk s.sequence s.state failed
+
+-- that of a request among these which was answered with a fault
+abbrev pub LeavesKeysOrMore : Disk → StoreState → List (List Bytes) → List Answer → Type 0
+LeavesKeysOrMore disk s served answers = LeavesKeysOrOneMore (OneFailed served answers) disk s
 
 -- From the store that was opened, the answers are the machine's. With status 0 the log comes to the keys and to the
 -- sequence at the end, at any crash from then on; with another one it may come to the keys after one batch more.
@@ -216,7 +220,7 @@ pub record Went (n : ℕ) (new : Outside) (served : List (List Bytes)) (answers 
 -- A session was served.
 pub record IsServed (n : ℕ) (old new : Outside) : Type 0 where
   pub outcome : Outcome
-  pub ran : Ran outcome old new
+  pub ran : Ran outcome (client_of old) (client_of new)
   pub caused : IsCaused outcome old.source new.source old.sink new.sink
   pub ends : EndsWith outcome n old.files new.files
   pub opened : Opened old.disk old.files (Went n new ran.served ran.answers old.readings)

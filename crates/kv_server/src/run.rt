@@ -1,6 +1,6 @@
 //! One run: the store is opened, a session is served, and the store is closed.
 
-ghost use Rattle.std.specs.Prelude.{◌≡◌, ◌≤◌, ◌⊎◌, List, []};
+ghost use Rattle.std.specs.Prelude.{◌≡◌, ◌≤◌, ◌⊎◌, List};
 ghost use Rattle.redis_model.specs.declared.command.Cmds.{Cmds};
 ghost use Rattle.session.specs.Session.{IsCaused};
 ghost use Rattle.log_store.specs.Keeping.{IsKept, Keeps, KeepsOrMore};
@@ -31,7 +31,7 @@ fn refuse<K: Sink>(fault: StoreFault, sink: &mut K) -> u8
 }
 
 /// One session from the source to the sink, over an open store.
-fn serve<'a, S: Source, K: Sink, P: Store<F>, F: Files, C: Clock>(
+pub(crate) fn serve<'a, S: Source, K: Sink, P: Store<F>, F: Files, C: Clock>(
     alloc: Global,
     kept: &'a mut P,
     source: &mut S,
@@ -39,8 +39,8 @@ fn serve<'a, S: Source, K: Sink, P: Store<F>, F: Files, C: Clock>(
     files: &'a mut F,
     clock: &'a mut C,
 ) -> Outcome
-    ensures session { IsKept (F.disk files.old) (P.kept kept.old) []
-        → IsSession result (P.kept kept.old) (P.kept kept.new)
+    ensures session { (before : List Cmds) → IsKept (F.disk files.old) (P.kept kept.old) before
+        → IsSession before result (P.kept kept.old) (P.kept kept.new)
         (outside (F.disk files.old) (F.faults files.old) (C.readings clock.old)
         (S.left source.old) (S.ended source.old) (S.faults source.old)
         (K.held sink.old) (K.faults sink.old))
@@ -79,7 +79,7 @@ fn status_unclosed(outcome: Outcome) -> u8
 }
 
 /// Closes the store behind a session.
-fn finish<F: Files>(store: &mut LogStore<F>, files: &mut F, outcome: Outcome) -> u8
+pub(crate) fn finish<F: Files>(store: &mut LogStore<F>, files: &mut F, outcome: Outcome) -> u8
     ensures ends { EndsWith outcome result (F.faults files.old) (F.faults files.new) }
     ensures later { F.faults files.old ≤ F.faults files.new }
     ensures kept { result ≡ 0 → (failed : List Cmds) → IsKept (F.disk files.old) store.old failed

@@ -4,5 +4,5 @@
 use std::process::ExitCode;
 
 fn main(rt: HostRuntime) -> ExitCode {
-    kvr_main::run(rt)
+    kvr_main::run(rt, &rt)
 }
