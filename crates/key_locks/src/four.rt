@@ -1,6 +1,6 @@
 //! Four locks in a row, and what a holder of some of them has.
 ghost use Rattle.std.specs.Prelude.{◌≡◌, ℕ, ◌+◌, ◌*◌, ◌<◌, ◌≤◌, true, false, IfSome, IfNone, slice_set};
-ghost use Rattle.key_locks.specs.Shares.{InHand, LentOut, is_held};
+ghost use Rattle.key_locks.specs.Shares.{InHand, LentOut, is_held, spot_at};
 ghost use Rattle.redis_model.specs.Stripes.{contains};
 ghost use Rattle.key_locks.specs.Slots.{spot_in};
 
@@ -22,10 +22,12 @@ pub struct FourLocks<N: NamesTally + 'static, const B: u8> {
 }
 
 impl<N: NamesTally + 'static, const B: u8> FourLocks<N, B> {
-    /// Each lock gets the share of its stripe.
+    /// Each lock gets the share of its stripe, which leaves the set.
     pub fn new(shares: &mut OwnShares) -> FourLocks<N, B>
         requires { (shares.old.table ≡ N.tally) × (B < 4) }
-        ensures { shares.new.table ≡ N.tally }
+        ensures table { shares.new.table ≡ N.tally }
+        ensures moved { (k : ℕ) → k < 4 →
+            is_held (spot_at shares.new.shares (4 * B + k)) ≡ false }
     {
         let a = Locked::new(shares.lend(4 * B));
         let b = Locked::new(shares.lend(4 * B + 1));

@@ -20,7 +20,7 @@ pub struct KeyLocks<N: NamesTally + 'static> {
 }
 
 impl<N: NamesTally + 'static> KeyLocks<N> {
-    /// Each share goes under the lock of its stripe.
+    /// Each share goes under the lock of its stripe. No clause can say what lies under a lock, so this one has none.
     pub fn new(mut shares: OwnShares) -> KeyLocks<N>
         requires { shares.table ≡ N.tally }
     {

@@ -1,6 +1,7 @@
 //! Sets of shares.
-ghost use Rattle.std.specs.Prelude.{◌≡◌, ◌<◌, ◌∷◌, [], true, false, length, slice_set, IfSome, IfNone, Some, None, if◌then◌else◌};
-ghost use Rattle.key_locks.specs.Shares.{ShareOf, AreOwn, all_here, is_held, spot_at, InHand, LentOut};
+ghost use Rattle.std.specs.Prelude.{◌≡◌, ℕ, ◌<◌, ◌∷◌, [], true, false, length, slice_set, IfSome, IfNone, Some, None, if◌then◌else◌};
+ghost use Rattle.redis_model.specs.Stripes.{contains};
+ghost use Rattle.key_locks.specs.Shares.{ShareOf, AreOwn, all_here, is_held, spot_at, spot_if, outside_of, InHand, LentOut};
 
 use crate::share::Share;
 use crate::token::TallySeat;
@@ -138,9 +139,11 @@ impl OwnShares {
     /// The shares of these stripes alone, as a set that borrows from this one. None is lent out.
     pub fn only(&mut self, stripes: Stripes) -> Only<'_>
         requires { all_here self.old.shares ≡ true }
-        ensures all { result.all.now ≡ self.old }
-        ensures same_all { result.all.ghost_name ≡ self.entry.ghost_name }
-        ensures stripes { result.stripes ≡ stripes }
+        ensures table { ⟦<Only<'static> as ShareSet>⟧.table result ≡ self.old.table }
+        ensures at { (k : ℕ) → ⟦<Only<'static> as ShareSet>⟧.at result k
+            ≡ spot_if (contains stripes k) (spot_at self.old.shares k) }
+        ensures loans { ⟦<Only<'static> as ShareSet>⟧.loans result
+            ≡ (self.entry.ghost_name, outside_of (contains stripes) 0 self.old.shares) ∷ [] }
     {
         Only { all: self, stripes }
     }

@@ -7,6 +7,7 @@ use key_locks::{Held, KeyLocks, NamesTally, OwnShares, Share, ShareSet, Tally};
 use redis_model::Stripes;
 use std::marker::{Brand, PhantomData};
 use std::process::Abort;
+use std::sync::atomic::{AtomicU16, Ordering};
 use std::sync::{Mutex, Wait};
 use std::test::*;
 use std::thread::{Threads, join};
@@ -93,55 +94,66 @@ impl<N: NamesTally + 'static> Books<N> {
     }
 }
 
-/// Raises two stripes, whose locks are held at once. Their counts then.
+/// What threads share: the locks, the books, and which stripes are held now, as the holders say.
+#[derive(Drop)]
+struct Shared<N: NamesTally + 'static> {
+    locks: KeyLocks<N>,
+    books: Mutex<Books<N>>,
+    busy: AtomicU16,
+}
+
+/// Raises two stripes, whose locks are held at once. None where another one holds a lock of them.
 fn raise_two<N: NamesTally + 'static, R: Wait>(
     rt: &R,
-    locks: &KeyLocks<N>,
-    books: &Mutex<Books<N>>,
+    shared: &Shared<N>,
     a: u8,
     b: u8,
 ) -> Option<(u64, u64)>
     requires { (a < 16) × (b < 16) }
 {
-    let mut held = locks.lock(rt, Stripes::none().with(a).with(b));
-    let first = books.lock(rt).raise(&mut held, a)?;
-    let second = books.lock(rt).raise(&mut held, b)?;
+    let stripes = Stripes::none().with(a).with(b);
+    let mut held = shared.locks.lock(rt, stripes);
+    let busy = shared.busy.fetch_or(stripes.bits, Ordering::SeqCst);
+    let first = shared.books.lock(rt).raise(&mut held, a)?;
+    let second = shared.books.lock(rt).raise(&mut held, b)?;
+    shared.busy.fetch_and(!stripes.bits, Ordering::SeqCst);
+    if busy & stripes.bits != 0 {
+        return None;
+    }
     Some((first, second))
 }
 
-/// Raises these two many times, named in this order. Their counts in the end.
-fn raise_often<N: NamesTally + 'static, R: Wait>(
-    rt: &R,
-    locks: &KeyLocks<N>,
-    books: &Mutex<Books<N>>,
-    a: u8,
-    b: u8,
-) -> Option<(u64, u64)>
+/// Raises these two many times, named in this order. Whether their counts rose each time.
+fn raise_often<N: NamesTally + 'static, R: Wait>(rt: &R, shared: &Shared<N>, a: u8, b: u8) -> bool
     requires { (a < 16) × (b < 16) }
 {
-    let mut last = None;
+    let mut last = (0, 0);
     for _ in 0..1000u32 {
-        last = raise_two(rt, locks, books, a, b);
+        let Some(counts) = raise_two(rt, shared, a, b) else {
+            return false;
+        };
+        if counts.0 <= last.0 || counts.1 <= last.1 {
+            return false;
+        }
+        last = counts;
     }
-    last
+    true
 }
 
 /// Two threads raise two stripes each.
 fn both<N: NamesTally + Send + Sync + 'static, R: Threads + Wait + Sync>(
     rt: &R,
-    locks: &KeyLocks<N>,
-    books: &Mutex<Books<N>>,
-    a: u8,
-    b: u8,
-    c: u8,
-    d: u8,
-) -> (Option<(u64, u64)>, Option<(u64, u64)>)
-    requires { (a < 16) × (b < 16) × (c < 16) × (d < 16) }
+    shared: &Shared<N>,
+    first: (u8, u8),
+    second: (u8, u8),
+) -> (bool, bool)
+    requires first { (first.0 < 16) × (first.1 < 16) }
+    requires second { (second.0 < 16) × (second.1 < 16) }
 {
     join(
         rt,
-        || -> Option<(u64, u64)> { raise_often(rt, locks, books, a, b) },
-        || -> Option<(u64, u64)> { raise_often(rt, locks, books, c, d) },
+        || -> bool { raise_often(rt, shared, first.0, first.1) },
+        || -> bool { raise_often(rt, shared, second.0, second.1) },
     )
 }
 
@@ -160,18 +172,23 @@ fn go<N: NamesTally + Send + Sync + 'static, R: Threads + Wait + Abort + Sync>(
     requires tally { tally.table ≡ N.tally }
     requires shares { shares.table ≡ N.tally }
 {
-    let books: Mutex<Books<N>> = Mutex::new(Books::new(tally));
-    let locks: KeyLocks<N> = KeyLocks::new(shares);
+    let shared: Shared<N> = Shared {
+        locks: KeyLocks::new(shares),
+        books: Mutex::new(Books::new(tally)),
+        busy: AtomicU16::new(0),
+    };
     // Named from both ends: whoever comes second waits for the first, and neither for ever.
-    both(rt, &locks, &books, 0, 15, 15, 0);
-    assert_eq!(rt; books.lock(rt).count(0), 2000);
-    assert_eq!(rt; books.lock(rt).count(15), 2000);
+    let rose = both(rt, &shared, (0, 15), (15, 0));
+    assert!(rt; rose.0 && rose.1);
+    assert_eq!(rt; shared.books.lock(rt).count(0), 2000);
+    assert_eq!(rt; shared.books.lock(rt).count(15), 2000);
     // Other stripes, in one row of locks and in two.
-    both(rt, &locks, &books, 5, 6, 4, 12);
-    assert_eq!(rt; books.lock(rt).count(5), 1000);
-    assert_eq!(rt; books.lock(rt).count(12), 1000);
+    let rose = both(rt, &shared, (5, 6), (4, 12));
+    assert!(rt; rose.0 && rose.1);
+    assert_eq!(rt; shared.books.lock(rt).count(5), 1000);
+    assert_eq!(rt; shared.books.lock(rt).count(12), 1000);
     // All sixteen, each with its share.
-    let held = locks.lock_all(rt);
+    let held = shared.locks.lock_all(rt);
     assert_eq!(rt; held.count(0), 2000);
     assert_eq!(rt; held.count(4), 1000);
     assert_eq!(rt; held.count(7), 0);

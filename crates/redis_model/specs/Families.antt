@@ -1,4 +1,4 @@
--- The commands without keys, those on strings, on keys of any type, on hashes, lists and sets, in groups.
+-- The commands without keys, those on strings, on keys of any type, on hashes, lists, sets and sorted sets, in groups.
 use Rattle.std.specs.Prelude.{Bool, true, false, ◌||◌}
 use Rattle.redis_model.specs.declared.command.Command.{Command}
 use Rattle.redis_model.specs.declared.command.Command.TheVariants as cmd
@@ -138,3 +138,33 @@ stores_sets _ = false
 
 abbrev pub is_set_command : Command → Bool
 is_set_command c = reads_sets c || (changes_sets c || (combines_sets c || stores_sets c))
+
+-- those that read sorted sets
+abbrev pub reads_sorted_sets : Command → Bool
+reads_sorted_sets (cmd.ZScore k x w) = true
+reads_sorted_sets (cmd.ZCard k w) = true
+reads_sorted_sets (cmd.ZCount k a b w) = true
+reads_sorted_sets (cmd.ZRank k x w) = true
+reads_sorted_sets (cmd.ZRevRank k x w) = true
+reads_sorted_sets (cmd.ZRange k a b s w) = true
+reads_sorted_sets (cmd.ZRevRange k a b s w) = true
+reads_sorted_sets (cmd.ZRangeByScore k a b s l w) = true
+reads_sorted_sets _ = false
+
+-- those that give members scores
+abbrev pub scores_members : Command → Bool
+scores_members (cmd.ZAdd k ss xs how w) = true
+scores_members (cmd.ZIncrBy k n x w) = true
+scores_members _ = false
+
+-- those that take members away
+abbrev pub removes_members : Command → Bool
+removes_members (cmd.ZRem k xs w) = true
+removes_members (cmd.ZRemRangeByRank k a b w) = true
+removes_members (cmd.ZRemRangeByScore k a b w) = true
+removes_members (cmd.ZPopMin k n w) = true
+removes_members (cmd.ZPopMax k n w) = true
+removes_members _ = false
+
+abbrev pub is_sorted_set_command : Command → Bool
+is_sorted_set_command c = reads_sorted_sets c || (scores_members c || removes_members c)

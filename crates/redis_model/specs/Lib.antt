@@ -28,7 +28,5 @@ pub mod MachineLaws
 pub mod Stripes
 pub mod StripesLaws
 pub mod Families
-pub mod Built
-pub mod BuiltLaws
 pub mod DeskState
 pub mod Desk

@@ -1,7 +1,6 @@
 ghost use base.Fml.{GName};
 ghost use Rattle.std.specs.Prelude.{◌≡◌, IsTrue, List, Some};
 ghost use Rattle.redis_model.specs.Asks.{Call};
-ghost use Rattle.redis_model.specs.Built.{built};
 ghost use Rattle.redis_model.specs.Desk.{IsSeen, TakesOnlyReading, TakesCall, fault_of};
 ghost use Rattle.redis_model.specs.DeskState.{DeskState};
 ghost use Rattle.redis_model.specs.Limits.{IsWithin, IsDue};
@@ -85,7 +84,6 @@ pub trait Desk {
         requires reading { (told self.old).last ≡ Some now }
         requires within { IsWithin command }
         requires due { IsDue command }
-        requires built { IsTrue (built command) }
         ensures call { TakesCall (told self.old) (told self.new) now (Call command) result }
         ensures loans { loans self.new ≡ loans self.old };
 

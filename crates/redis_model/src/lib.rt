@@ -8,9 +8,9 @@
 //! each names a law over these definitions, which is proved.
 #![tactic(auto)]
 
-mod built;
 mod command;
 mod desk;
+mod families;
 mod history;
 mod laws;
 mod reply;

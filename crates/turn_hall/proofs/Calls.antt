@@ -1,5 +1,5 @@
 -- The steps, at a seat whose hands are known.
-use Rattle.std.proofs.Common.{◌≡◌, ℕ, ◌+◌, ◌%◌, ◌^◌, ◌<◌, eqb, List, [], ◌∷◌, length, sym, ap, ◌∙◌, subst}
+use Rattle.std.proofs.Common.{◌≡◌, ◌≢◌, ℕ, ◌+◌, ◌%◌, ◌^◌, ◌<◌, eqb, List, [], ◌∷◌, length, sym, ap, ◌∙◌, subst}
 use mathlib.Core.List.{IsPrefix}
 use prog.Atomic.{either}
 use Rattle.atomic_table.specs.Table.{Allows, Splits}
@@ -43,4 +43,5 @@ module _ {E : Type 0} (caller : E → ℕ) where
   pub merged : (v w : List (Hand E)) → IsTwo v → Merges caller v w
       → (w ≡ pass_of (number_in (other_tokens v)) (free_in (other_tokens v)) (longer_log (log_in v) (seen_in v)) ∷ []) × IsPrefix (log_in v) (longer_log (log_in v) (seen_in v)) × IsPrefix (seen_in v) (longer_log (log_in v) (seen_in v))
       × (entries_of caller (number_in (other_tokens v)) (longer_log (log_in v) (seen_in v)) ≡ entries_of caller (number_in (other_tokens v)) (log_in v)) × (entries_of caller (number_in v) (longer_log (log_in v) (seen_in v)) ≡ entries_of caller (number_in v) (seen_in v))
+      × (number_in (other_tokens v) ≢ number_in v)
   merged v w is h = subst (λ (u : List (Hand E)). Merges caller u w) is h

@@ -187,7 +187,11 @@ module _ {E : Type 0} (caller : E → ℕ) where
         let p = all.1.0 in
         let l = longer_of xs ys h.history p.begins q.begins in
         let own : entries_of caller n log ≡ entries_of caller n xs = squeezed caller n xs log h.history l.0 l.2 p.own in
-        let theirs : entries_of caller m log ≡ entries_of caller m ys = squeezed caller m ys log h.history l.1 l.2 q.own in (
+        let theirs : entries_of caller m log ≡ entries_of caller m ys = squeezed caller m ys log h.history l.1 l.2 q.own in
+        let this_one : cond {A = ℕ} (eqb m m) 1 0 ≡ 1 = ap (λ (b : Bool). cond {A = ℕ} b 1 0) (eq-eqb m m refl) in
+        let differ : n ≢ m = λ same.
+        let that_one : cond {A = ℕ} (eqb n m) 1 0 ≡ 1 = ap (λ (b : Bool). cond {A = ℕ} b 1 0) (eq-eqb n m same) in
+        absurd (omega (arith, this_one, that_one, total-at (total (one_pass m)) s.views id v at, h.once m)) in (
           w,
           keeps,
           tt,
@@ -200,5 +204,5 @@ module _ {E : Type 0} (caller : E → ℕ) where
             fits = each_set (AllFit caller h.history h.low) s.views id w (λ k u ne e. h.fits k u e) (record { begins = l.2; own = p.own ∙ sym own; given = p.given; free = p.free }, tt);
             known = h.known;
           },
-          ((refl, l.0, l.1, own, theirs), refl),
+          ((refl, l.0, l.1, own, theirs, differ), refl),
         )

@@ -1,11 +1,13 @@
--- The own entries of a caller have its calls and its jobs.
-use Rattle.std.proofs.Common.{◌≡◌, ℕ, Bool, true, false, cond, List, [], ◌∷◌, refl, sym, ap, ◌∙◌}
+-- The own entries of a caller have its calls and its jobs, and so have the entries that are new.
+use Rattle.std.proofs.Common.{◌≡◌, ℕ, Bool, true, false, cond, List, [], ◌∷◌, ◌++◌, refl, sym, ap, ◌∙◌}
+use Rattle.std.proofs.lemmas.List.{map-append}
+use Rattle.std.proofs.lemmas.List.Elements.{filter-append}
 use Rattle.std.specs.Prelude.{◌==◌}
 use Rattle.redis_model.specs.declared.history.Step.{Step}
 use Rattle.redis_model.specs.declared.history.Step.TheVariants.{Tick, Call, Exec, PinNow, PinnedRead, PinnedRefused, Unpin, Job}
 use Rattle.redis_model.specs.declared.history.Place.{Place}
 use Rattle.redis_model.specs.Desk.{mine}
-use Rattle.redis_model.specs.Legal.{is_call_of, is_job_of, jobs_of}
+use Rattle.redis_model.specs.Legal.{is_call_of, is_job_of, calls_of, jobs_of}
 use Rattle.redis_model.specs.Places.{steps_of}
 use Rattle.turn_hall.specs.Hands.{entries_of}
 use Rattle.turn_hall.specs.Places.{step_caller, by_of}
@@ -51,3 +53,10 @@ same_calls n ps qs e = sym (own_calls n ps) ∙ (ap (mine n) e ∙ own_calls n q
 
 pub same_jobs : (n : ℕ) (ps qs : List Place) → entries_of by_of n ps ≡ entries_of by_of n qs → jobs_of n (steps_of ps) ≡ jobs_of n (steps_of qs)
 same_jobs n ps qs e = sym (own_jobs n ps) ∙ (ap (λ l. jobs_of n (steps_of l)) e ∙ own_jobs n qs)
+
+-- where the history before has no entry of the caller that it had not seen, the entries behind it bring all that is new
+pub more_calls : (n : ℕ) (seen before es : List Place) → entries_of by_of n before ≡ entries_of by_of n seen → mine n (before ++ es) ≡ mine n seen ++ mine n es
+more_calls n seen before es e = ap (calls_of n) (map-append (λ p. p.what) before es) ∙ (filter-append (is_call_of n) (steps_of before) (steps_of es) ∙ ap (λ l. l ++ mine n es) (same_calls n before seen e))
+
+pub more_jobs : (n : ℕ) (seen before es : List Place) → entries_of by_of n before ≡ entries_of by_of n seen → jobs_of n (steps_of (before ++ es)) ≡ jobs_of n (steps_of seen) ++ jobs_of n (steps_of es)
+more_jobs n seen before es e = ap (jobs_of n) (map-append (λ p. p.what) before es) ∙ (filter-append (is_job_of n) (steps_of before) (steps_of es) ∙ ap (λ l. l ++ jobs_of n (steps_of es)) (same_jobs n before seen e))

@@ -1,5 +1,5 @@
 -- The rule of a hall: there is one history, and each pass has seen a beginning of it, in which all entries of its number stand.
-use Rattle.std.specs.Prelude.{◌≡◌, ℕ, ◌%◌, ◌^◌, ◌≤◌, Bool, true, false, List, [], ◌∷◌, ◌++◌, length, map, ◌⊎◌}
+use Rattle.std.specs.Prelude.{◌≡◌, ◌≢◌, ℕ, ◌%◌, ◌^◌, ◌≤◌, Bool, true, false, List, [], ◌∷◌, ◌++◌, length, map, ◌⊎◌}
 use mathlib.Core.List.{IsPrefix}
 use mathlib.Core.Option.{Option, none, some}
 use lib.ListN.{get_elem?}
@@ -50,7 +50,7 @@ module _ {E : Type 0} (caller : E → ℕ) where
       × (found ≡ length q.seen % 2 ^ 64)
   CatchesUp v found w = w ≡ v
 
-  -- both begin the longer one, which has no further entries of either number
+  -- both begin the longer one, which has no further entries of either number. The numbers differ
   abbrev pub Merges : List (Hand E) → List (Hand E) → Type 0
   Merges (q ∷ p ∷ []) w =
       let log = longer_log p.seen q.seen in
@@ -59,6 +59,7 @@ module _ {E : Type 0} (caller : E → ℕ) where
       × IsPrefix q.seen log
       × (entries_of caller p.number log ≡ entries_of caller p.number p.seen)
       × (entries_of caller q.number log ≡ entries_of caller q.number q.seen)
+      × (p.number ≢ q.number)
   Merges v w = w ≡ v
 
 -- each hand has the entry

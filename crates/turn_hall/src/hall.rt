@@ -1,10 +1,13 @@
 //! A state that threads change by turns, in one history.
-ghost use Rattle.std.specs.Prelude.{◌≡◌, ◌-◌, ◌<◌, ◌^◌, ◌++◌, ◌∷◌, [], List, IfSome, IfOk};
+ghost use Rattle.std.specs.Prelude.{◌≡◌, ◌≢◌, ◌-◌, ◌<◌, ◌^◌, ◌++◌, [], List, IfSome, IfOk};
 ghost use Rattle.std.specs.Option.{option_to_list};
 ghost use mathlib.Core.List.{IsPrefix};
 ghost use Rattle.redis_model.specs.declared.history.Place.{Place};
+ghost use Rattle.redis_model.specs.Desk.{mine};
+ghost use Rattle.redis_model.specs.Legal.{jobs_of};
+ghost use Rattle.redis_model.specs.Places.{steps_of};
 ghost use Rattle.turn_hall.specs.Places.{by_of, SameOwn};
-ghost use Rattle.turn_hall.specs.Hands.{longer_log, writer_of, pass_of};
+ghost use Rattle.turn_hall.specs.Hands.{longer_log};
 
 use crate::hand::{HallSeat, HallTable};
 use crate::naming::NamesHall;
@@ -14,19 +17,31 @@ use crate::steps::{open, split_first};
 use crate::turned::{Stands, Turned};
 use kv_base::NoMem;
 use std::alloc::Global;
-use std::marker::PhantomData;
+use std::marker::{Model, PhantomData};
 use std::sync::{Mutex, Wait};
 
-/// A state whose history is empty, which has no name yet.
+/// A state whose history is empty, which has no name yet. To a contract it is its table and the state.
 pub struct Opened<C> {
     table: HallTable,
     writer: HallSeat,
     pass: HallSeat,
     state: C,
-    pub ghost one_table: { (writer.table_id ≡ table.shared.table_id)
-        × (pass.table_id ≡ table.shared.table_id) × (table.shared.table_id.words ≡ 1) },
-    ghost writes: { writer.me ≡ (writer_of [] ∷ [], []) },
-    ghost has_seen: { pass.me ≡ (pass_of 0 (2 ^ 32) [] ∷ [], []) },
+}
+
+impl<C> Model for Opened<C> {
+    ghost use Rattle.turn_hall.specs.Passes.{OpenedOf};
+
+    ghost Value = { OpenedOf C };
+
+    ghost use Rattle.std.specs.Prelude.{◌≡◌, ◌^◌, ◌∷◌, []};
+    ghost use Rattle.turn_hall.specs.Hands.{writer_of, pass_of};
+
+    ghost view = { λ o. record { table = o.table.shared.table_id; state = o.state } };
+
+    ghost invariant = { λ o. (o.writer.table_id ≡ o.table.shared.table_id)
+        × (o.pass.table_id ≡ o.table.shared.table_id) × (o.table.shared.table_id.words ≡ 1)
+        × (o.writer.me ≡ (writer_of [] ∷ [], []))
+        × (o.pass.me ≡ (pass_of 0 (2 ^ 32) [] ∷ [], [])) };
 }
 
 impl<C> Opened<C> {
@@ -50,7 +65,7 @@ impl<C> Opened<C> {
     pub fn named<N: NamesHall>(self) -> (Hall<C, N>, Pass<N>)
     where
         C: Stands<N>,
-        requires name { self.table.shared.table_id ≡ N.hall }
+        requires name { self.table ≡ N.hall }
         requires stands { C.stands self.state [] }
         ensures { result.1 ≡ record { number = 0; free = 2 ^ 32; seen = [] } }
     {
@@ -90,9 +105,9 @@ pub struct Hall<C: Stands<N>, N: NamesHall> {
 }
 
 impl<C: Stands<N>, N: NamesHall> Hall<C, N> {
-    /// Plays one event. What the pass has seen then is the history as the turn leaves it: it begins with what the
-    /// pass had seen, it has no further entry of the pass's number but the one that the event made, and that one is
-    /// its last.
+    /// Plays one event. What the pass has seen then is the history as the turn leaves it, for which the state stands:
+    /// it begins with what the pass had seen, it has no further entry of the pass's number but the one that the event
+    /// made, and that one is its last. So the caller's calls and jobs grew by that entry, or by nothing.
     pub fn turn<F, V, R: Wait>(
         &self,
         rt: &R,
@@ -110,6 +125,13 @@ impl<C: Stands<N>, N: NamesHall> Hall<C, N> {
             × (pass.new.seen ≡ before ++ option_to_list (C.made result))
             × C.tells before files.old event result files.new }
         ensures caller { IfSome (C.made result) (λ e. by_of e ≡ pass.old.number) }
+        ensures begins { IsPrefix pass.old.seen pass.new.seen }
+        ensures calls { mine pass.old.number pass.new.seen ≡ mine pass.old.number pass.old.seen
+            ++ mine pass.old.number (option_to_list (C.made result)) }
+        ensures jobs { jobs_of pass.old.number (steps_of pass.new.seen)
+            ≡ jobs_of pass.old.number (steps_of pass.old.seen)
+            ++ jobs_of pass.old.number (steps_of (option_to_list (C.made result))) }
+        ensures stands { (state : C) × C.stands state pass.new.seen }
         ensures same { (pass.new.number ≡ pass.old.number) × (pass.new.free ≡ pass.old.free) }
     {
         self.desk.lock(rt).turn(&self.table, pass, files, event)
@@ -132,7 +154,7 @@ impl<C: Stands<N>, N: NamesHall> Hall<C, N> {
         pass.split(&self.table)
     }
 
-    /// What either pass has seen. The other one ends.
+    /// What either pass has seen. The other one, which has another number, ends.
     pub fn join(&self, pass: &mut Pass<N>, other: Pass<N>)
         ensures pass { pass.new ≡ record {
           number = pass.old.number;
@@ -143,6 +165,7 @@ impl<C: Stands<N>, N: NamesHall> Hall<C, N> {
         ensures that { IsPrefix other.seen pass.new.seen }
         ensures this_own { SameOwn pass.old.number pass.new.seen pass.old.seen }
         ensures that_own { SameOwn other.number pass.new.seen other.seen }
+        ensures numbers { pass.old.number ≢ other.number }
     {
         pass.join(&self.table, other);
     }

@@ -1,5 +1,5 @@
 //! A pass of a hall.
-ghost use Rattle.std.specs.Prelude.{◌≡◌, ◌+◌, ◌-◌, ◌<◌, ◌≤◌, ◌^◌, ◌∷◌, ◌++◌, []};
+ghost use Rattle.std.specs.Prelude.{◌≡◌, ◌≢◌, ◌+◌, ◌-◌, ◌<◌, ◌≤◌, ◌^◌, ◌∷◌, ◌++◌, []};
 ghost use mathlib.Core.List.{IsPrefix};
 ghost use Rattle.turn_hall.specs.Places.{SameOwn};
 ghost use Rattle.turn_hall.specs.Hands.{longer_log};
@@ -80,6 +80,7 @@ impl<N: NamesHall> Pass<N> {
         ensures that { IsPrefix other.seen self.new.seen }
         ensures this_own { SameOwn self.old.number self.new.seen self.old.seen }
         ensures that_own { SameOwn other.number self.new.seen other.seen }
+        ensures numbers { self.old.number ≢ other.number }
     {
         let Pass {
             number: _,

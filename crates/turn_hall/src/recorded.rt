@@ -127,6 +127,7 @@ impl<C: Stands<N>, N: NamesHall> Recorded<C, N> {
         } }
         ensures caller { IfSome (C.made result) (λ e. by_of e ≡ pass.old.number) }
         ensures tells { C.tells self.old.history files.old event result files.new }
+        ensures stands { C.stands self.new.state self.new.history }
     {
         let word = enter(table, &mut self.seat, &mut pass.seat);
         let (answer, said) = self.state.play(files, event);

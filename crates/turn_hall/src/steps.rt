@@ -1,5 +1,5 @@
 //! The steps of the hall's table.
-ghost use Rattle.std.specs.Prelude.{◌≡◌, ◌+◌, ◌-◌, ◌%◌, ◌^◌, ◌<◌, ◌∷◌, ◌++◌, [], length, IfOk};
+ghost use Rattle.std.specs.Prelude.{◌≡◌, ◌≢◌, ◌+◌, ◌-◌, ◌%◌, ◌^◌, ◌<◌, ◌∷◌, ◌++◌, [], length, IfOk};
 ghost use mathlib.Core.List.{IsPrefix};
 ghost use Rattle.turn_hall.specs.Places.{by_of, SameOwn};
 ghost use Rattle.turn_hall.specs.Hands.{longer_log, writer_of, pass_of, number_in, free_in, seen_in, log_in, IsBoth, IsTwo};
@@ -125,6 +125,7 @@ pub(crate) fn merge(table: &HallTable, seat: &mut HallSeat)
         (longer_log (log_in seat.old.me.0) (seen_in seat.old.me.0)) (log_in seat.old.me.0) }
     ensures that_own { SameOwn (number_in seat.old.me.0)
         (longer_log (log_in seat.old.me.0) (seen_in seat.old.me.0)) (seen_in seat.old.me.0) }
+    ensures numbers { number_in (other_tokens seat.old.me.0) ≢ number_in seat.old.me.0 }
 {
     table.shared.load::<Merge>(seat, 0);
 }

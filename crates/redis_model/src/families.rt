@@ -1,17 +1,9 @@
 ghost use Rattle.std.specs.Prelude.{◌≡◌};
-ghost use Rattle.redis_model.specs.Families.{is_hash_command, is_keyless_command, is_list_command, is_set_command};
-ghost use Rattle.redis_model.specs.Built.{built, is_built_on_collections, is_built_on_keys};
+ghost use Rattle.redis_model.specs.Families.{is_hash_command, is_keyless_command, is_list_command, is_set_command, is_sorted_set_command};
 
 use crate::command::Command;
 
 impl Command {
-    /// Whether stores carry it out by now: all but the commands on sorted sets. Those are answered as unknown.
-    pub fn is_built(&self) -> bool
-        ensures { result ≡ built self.now }
-    {
-        self.is_keyless() || self.is_built_on_keys() || self.is_built_on_collections()
-    }
-
     /// Whether it names no key: PING, ECHO and SELECT.
     pub fn is_keyless(&self) -> bool
         ensures { result ≡ is_keyless_command self.now }
@@ -20,48 +12,6 @@ impl Command {
             self,
             Command::Ping(_, _) | Command::Echo(_, _) | Command::Select(_, _)
         )
-    }
-
-    /// Whether it is one on strings or on keys of any type.
-    fn is_built_on_keys(&self) -> bool
-        ensures { result ≡ is_built_on_keys self.now }
-    {
-        match self {
-            Command::Get(_, _)
-            | Command::MGet(_, _)
-            | Command::StrLen(_, _)
-            | Command::GetRange(_, _, _, _)
-            | Command::Exists(_, _)
-            | Command::TypeOf(_, _)
-            | Command::Ttl(_, _)
-            | Command::PTtl(_, _)
-            | Command::Set(_, _, _, _, _)
-            | Command::SetNx(_, _, _)
-            | Command::SetEx(_, _, _, _)
-            | Command::PSetEx(_, _, _, _)
-            | Command::GetSet(_, _, _)
-            | Command::GetDel(_, _)
-            | Command::MSet(_, _, _)
-            | Command::Append(_, _, _)
-            | Command::Incr(_, _)
-            | Command::Decr(_, _)
-            | Command::IncrBy(_, _, _)
-            | Command::DecrBy(_, _, _)
-            | Command::Del(_, _)
-            | Command::Expire(_, _, _)
-            | Command::PExpire(_, _, _)
-            | Command::ExpireAt(_, _, _)
-            | Command::PExpireAt(_, _, _)
-            | Command::Persist(_, _) => true,
-            _ => false,
-        }
-    }
-
-    /// Whether it is one on hashes, lists or sets.
-    fn is_built_on_collections(&self) -> bool
-        ensures { result ≡ is_built_on_collections self.now }
-    {
-        self.is_on_hashes() || self.is_on_lists() || self.is_on_sets()
     }
 
     /// Whether it is one on hashes.
@@ -125,6 +75,29 @@ impl Command {
             | Command::SInterStore(_, _, _)
             | Command::SUnionStore(_, _, _)
             | Command::SDiffStore(_, _, _) => true,
+            _ => false,
+        }
+    }
+    /// Whether it is one on sorted sets.
+    pub fn is_on_sorted_sets(&self) -> bool
+        ensures { result ≡ is_sorted_set_command self.now }
+    {
+        match self {
+            Command::ZAdd(_, _, _, _, _)
+            | Command::ZRem(_, _, _)
+            | Command::ZScore(_, _, _)
+            | Command::ZCard(_, _)
+            | Command::ZCount(_, _, _, _)
+            | Command::ZRank(_, _, _)
+            | Command::ZRevRank(_, _, _)
+            | Command::ZRange(_, _, _, _, _)
+            | Command::ZRevRange(_, _, _, _, _)
+            | Command::ZRangeByScore(_, _, _, _, _, _)
+            | Command::ZIncrBy(_, _, _, _)
+            | Command::ZRemRangeByRank(_, _, _, _)
+            | Command::ZRemRangeByScore(_, _, _, _)
+            | Command::ZPopMin(_, _, _)
+            | Command::ZPopMax(_, _, _) => true,
             _ => false,
         }
     }
