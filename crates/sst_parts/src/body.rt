@@ -55,8 +55,8 @@ fn has_room(whole: usize, rest: &[u8]) -> bool
     whole.saturating_sub(rest.len()) < BLOCK_SIZE
 }
 
-/// Is the row on its grammar, and behind the one before it?
-fn is_next(last: Option<RowRef<'_>>, row: RowRef<'_>) -> bool
+/// Is the row on its grammar, and behind the one before it, where there is one?
+pub fn is_next(last: Option<RowRef<'_>>, row: RowRef<'_>) -> bool
     ensures { result ≡ is_next_row (option_map row_seen last.entry) (row_seen row.entry) }
 {
     is_behind(last, row) && is_row(row)

@@ -18,7 +18,7 @@ mod seeking;
 
 pub use bits::Bits;
 pub use block::{BLOCK_SIZE, BlockWriter};
-pub use body::{next_row, order, read_body};
+pub use body::{is_next, next_row, order, read_body};
 pub use foot::{FOOT_LENGTH, Foot, HEAD, read_foot};
 pub use index::{Spot, encode_index, read_index};
 pub use key_hash::KeyHash;

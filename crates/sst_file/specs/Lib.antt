@@ -1,0 +1,10 @@
+pub mod BlockReadLaws
+pub mod BlockReads
+pub mod OpenedPartLaws
+pub mod Opening
+pub mod Reading
+pub mod SearchLaws
+pub mod SearchOrderLaws
+pub mod SearchStepLaws
+pub mod Searching
+pub mod States

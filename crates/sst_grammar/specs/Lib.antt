@@ -1,0 +1,7 @@
+pub mod JudgedPartLaws
+pub mod Judging
+pub mod OneBlockingLaws
+pub mod OnlyTableLaws
+pub mod PlacedLaws
+pub mod Placing
+pub mod WholeTableLaws

@@ -1,0 +1,4 @@
+pub mod OkLaws
+pub mod SumLaws
+pub mod Summing
+pub mod SummingLaws

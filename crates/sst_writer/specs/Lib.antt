@@ -1,0 +1,12 @@
+pub mod Building
+pub mod BuildingLaws
+pub mod CutLaws
+pub mod Cutting
+pub mod Ending
+pub mod EndingLaws
+pub mod Filling
+pub mod TakingLaws
+pub mod Writing
+pub mod WritingLaws
+pub mod Written
+pub mod WrittenLaws
