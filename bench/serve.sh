@@ -2,13 +2,16 @@
 # Measures `kvr serve` by redis-benchmark, beside Redis where it is there: SET, GET, INCR, LPUSH, HSET and ZADD over one
 # connection, a request at a time and in pipelines of 16. Redis syncs its log before it answers, as kvr does:
 # appendonly yes and appendfsync always. Each line has the requests a second of both, in the same run on the same disk,
-# and kvr's part of Redis'. Of three turns, which alternate, the best counts.
+# and kvr's part of Redis'. Of three turns, which alternate, the best counts. A command that kvr answers as unknown is
+# left out, which a line says.
 #
-#     bench/serve.sh
+#     bench/serve.sh [COUNT]
 #
-# Needs python3 and redis-benchmark; without redis-server the lines have kvr alone.
+# COUNT requests go one at a time, 5,000 where no number is given, and ten times as many in pipelines. Needs python3 and
+# redis-benchmark; without redis-server the lines have kvr alone.
 set -eu
 top=$(cd -- "$(dirname -- "$0")/.." && pwd)
+count=${1:-5000}
 if ! command -v redis-benchmark > /dev/null; then
     echo "bench/serve.sh: no redis-benchmark" >&2
     exit 1
@@ -74,24 +77,44 @@ fi
 compare() {
     python3 - "$1" "$2" "$ours" "$theirs" <<'PYTHON'
 import csv
+import socket
 import subprocess
 import sys
 
 count, pipeline, ours, theirs = sys.argv[1:]
-commands = ["set", "get", "incr", "lpush", "hset", "zadd"]
+# each command in a form that the server can be asked by
+commands = {
+    "set": b"SET probe:set v",
+    "get": b"GET probe:set",
+    "incr": b"INCR probe:incr",
+    "lpush": b"LPUSH probe:lpush v",
+    "hset": b"HSET probe:hset f v",
+    "zadd": b"ZADD probe:zadd 1 m",
+}
+
+
+# whether the server knows the command
+def is_known(port, command):
+    with socket.create_connection(("127.0.0.1", int(port))) as link:
+        link.sendall(commands[command] + b"\r\n")
+        return not link.recv(1024).startswith(b"-ERR unknown command")
 
 
 # the requests a second of one run
 def rate(port, command):
     words = ["redis-benchmark", "-p", port, "-c", "1", "-n", count, "-P", pipeline, "-r", "1000", "-t", command, "--csv"]
-    rows = [row for row in csv.reader(subprocess.check_output(words, text=True).splitlines()) if row]
+    run = subprocess.run(words, capture_output=True, text=True)
+    rows = [row for row in csv.reader(run.stdout.splitlines()) if row]
     rates = [float(row[1]) for row in rows if row[0].split()[0].lower() == command]
     if len(rates) != 1:
-        sys.exit("redis-benchmark -t %s told %r" % (command, rows))
+        sys.exit("redis-benchmark -t %s told %r and %r" % (command, rows, run.stderr))
     return rates[0]
 
 
 for command in commands:
+    if not is_known(ours, command):
+        print("%-6s pipeline %2s is left out: kvr answers it as unknown" % (command.upper(), pipeline))
+        continue
     best = {}
     for _ in range(3):
         for port in [ours, theirs]:
@@ -104,5 +127,5 @@ for command in commands:
 PYTHON
 }
 
-compare 5000 1
-compare 50000 16
+compare "$count" 1
+compare "$((10 * count))" 16

@@ -7,9 +7,13 @@ use std::io;
 use std::io::ErrorKind;
 use std::marker::Model;
 use std::net::{Net, OpenListener, OpenStream, SocketAddr, TcpListener};
+use std::time::Duration;
 
 /// How many clients may go away in a row before they are accepted.
 const TRIES: u32 = 1 << 20;
+
+/// How many seconds a write waits for a client that takes nothing.
+const WRITE_SECONDS: u64 = 60;
 
 /// A listener on a TCP address. One that could not be bound fails at each accept. Every error is counted, but for that of
 /// a client that went away before it was accepted: then the next one is waited for.
@@ -59,7 +63,8 @@ fn next_stream<L: OpenListener>(listener: &L) -> io::Result<L::Stream> {
     Err(ErrorKind::ConnectionAborted.into())
 }
 
-/// The next link. An answer is sent at once and not held back for a later one, as far as the system does so.
+/// The next link. As far as the system does so, an answer is sent at once and not held back for a later one, and a write
+/// fails when its client has taken nothing for so many seconds; a read waits as long as its client says nothing.
 fn next_link<R: Net>(door: &TcpDoor<R>) -> io::Result<(TcpIn<R::Stream>, TcpOut<R::Stream>)> {
     let listener = match &door.listener {
         Some(listener) => listener,
@@ -67,6 +72,7 @@ fn next_link<R: Net>(door: &TcpDoor<R>) -> io::Result<(TcpIn<R::Stream>, TcpOut<
     };
     let stream = next_stream(listener)?;
     let _ = stream.set_nodelay(true);
+    let _ = stream.set_write_timeout(Some(Duration::from_secs(WRITE_SECONDS)));
     let back = stream.try_clone()?;
     Ok((TcpIn::new(stream), TcpOut::new(back)))
 }

@@ -19,8 +19,8 @@ pub struct TcpIn<S: Drop> {
     faults: u64,
 }
 
-/// What a client is sent. A write that a signal interrupts is made again; every other error is counted, as is a write
-/// that takes nothing of a piece that has bytes.
+/// What a client is sent. A write that a signal interrupts is made again; every other error is counted, that of a client
+/// which takes nothing for too long among them, as is a write that takes nothing of a piece that has bytes.
 #[derive(Drop)]
 pub struct TcpOut<S: Drop> {
     stream: S,

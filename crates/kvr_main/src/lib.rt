@@ -3,7 +3,8 @@
 //! `kvr script --dir D` answers the requests on its standard input on its standard output, with the status of
 //! `kv_server::top_script`. `kvr serve --conf FILE` answers clients over TCP, one after the other, with the status of
 //! `kv_server::top_serve`; its own are 5 and 11, where the configuration can't be read or is off its grammar. The status is
-//! 1 also where a word is no UTF-8. What ended the program with a status other than 0 is said in a line on standard error.
+//! 1 also where a word is no UTF-8. What ended the program with a status other than 0 is said in a line on standard
+//! error, which names the configuration and its key, the address or the folder, where it lies in one of these.
 #![tactic(auto)]
 
 mod script;
@@ -13,22 +14,13 @@ mod words;
 
 use crate::script::script;
 use crate::serve::serve;
-use crate::status::reason_of_script;
+use crate::status::tell_early_end;
 use crate::words::{status_without_words, words_of};
 use kv_base::PathText;
 use kv_conf::{Words, read_words};
 use std::alloc::Global;
 use std::process::ExitCode;
 use std::sync::Wait;
-
-/// Runs `script`, and tells what ended it.
-fn run_script(rt: HostRuntime, words: &[String]) -> u8 {
-    let status = script(rt, words);
-    if let Some(reason) = reason_of_script(status) {
-        let _ = eprintln!(&rt; "kvr: {reason}");
-    }
-    status
-}
 
 /// The path of the configuration that the words of `serve` name.
 fn configuration_of(alloc: Global, words: &[String]) -> Option<PathText> {
@@ -43,11 +35,15 @@ fn configuration_of(alloc: Global, words: &[String]) -> Option<PathText> {
 pub fn run<W: Wait>(rt: HostRuntime, waits: &W) -> ExitCode {
     let words = match words_of(&rt) {
         Ok(words) => words,
-        Err(error) => return ExitCode::from(status_without_words(error.kind())),
+        Err(error) => {
+            let status = status_without_words(error.kind());
+            tell_early_end(&rt, status);
+            return ExitCode::from(status);
+        }
     };
     let status = match configuration_of(rt.alloc(), &words) {
-        Some(path) => serve(rt, waits, &words, path),
-        None => run_script(rt, &words),
+        Some(path) => serve(rt, waits, &words, &path),
+        None => script(rt, &words),
     };
     ExitCode::from(status)
 }

@@ -3,7 +3,7 @@
 ghost use Rattle.std.specs.Prelude.{◌≡◌, IfOk, map, string_bytes};
 ghost use Rattle.kvr_main.specs.Folder.{folder_of as folder_in};
 
-use crate::status::NO_MEMORY;
+use crate::status::{NO_MEMORY, tell_early_end, tell_end};
 use kv_base::{NoMem, PathText};
 use kv_conf::{Words, WordsFault, read_words};
 use kv_real::{RealFiles, StdIn, StdOut, SystemClock};
@@ -30,7 +30,7 @@ fn files_of(rt: HostRuntime, words: &[String]) -> Result<RealFiles<HostRuntime>,
 }
 
 /// Runs `script` by these words on the real input, output, clock and files, and answers its status.
-pub(crate) fn script(rt: HostRuntime, words: &[String]) -> u8 {
+fn run(rt: HostRuntime, words: &[String]) -> u8 {
     let mut files = match files_of(rt, words) {
         Ok(files) => files,
         Err(NoMem) => return NO_MEMORY,
@@ -46,4 +46,19 @@ pub(crate) fn script(rt: HostRuntime, words: &[String]) -> u8 {
         &mut files,
         &mut clock,
     )
+}
+
+/// Runs `script` by these words, and says what ended it. Answers the status.
+pub(crate) fn script(rt: HostRuntime, words: &[String]) -> u8 {
+    match folder_of(rt.alloc(), words) {
+        Ok(folder) => {
+            let status = run(rt, words);
+            tell_end(&rt, status, folder.text());
+            status
+        }
+        Err(NoMem) => {
+            tell_early_end(&rt, NO_MEMORY);
+            NO_MEMORY
+        }
+    }
 }
