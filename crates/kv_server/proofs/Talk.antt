@@ -21,7 +21,7 @@ use Rattle.redis_model.specs.declared.reply.Reply.{Reply}
 use Rattle.redis_model.specs.About.{writes}
 use Rattle.redis_model.specs.Apply.{due}
 use Rattle.redis_model.specs.Asks as ask
-use Rattle.redis_model.specs.Built.{built}
+use Rattle.session.specs.Unserved.{is_unserved}
 use Rattle.redis_model.specs.DeskState.{DeskState}
 use Rattle.redis_model.specs.Places.{Opening, steps_of, state_at}
 use Rattle.redis_model.specs.Desk.{mine, has_pin, IsTicked, IsWithheld as IsWithheldEntry, Entered, Withheld, LeavesPlaces, HasReason, can_write, failed_with, last_sequence}
@@ -162,12 +162,12 @@ IsOfCalls (ToDesk (ask.Call c)) = Unit {0}
 IsOfCalls (ToDesk _) = ⊥
 IsOfCalls (Own said) = Unit {0}
 
-of_built : (c : Command) (b : Bool) → IsOfCalls (if b then ToDesk (ask.Call c) else Own answer.Unserved)
-of_built c true = tt
-of_built c false = tt
+of_served : (c : Command) (b : Bool) → IsOfCalls (if b then Own answer.Unserved else ToDesk (ask.Call c))
+of_served c true = tt
+of_served c false = tt
 
 of_calls : (read : Result Parsed CommandFault) → IsOfCalls (asked read)
-of_calls (Ok (parsed.Data c)) = of_built c (built c)
+of_calls (Ok (parsed.Data c)) = of_served c (is_unserved c)
 of_calls (Ok _) = tt
 of_calls (Err fault) = tt
 

@@ -59,7 +59,6 @@ impl<'a, P: Store<F>, F: Files, C: Clock> Desk for LogDesk<'a, P, F, C> {
     ghost use Rattle.std.specs.Prelude.{[], ◌∷◌, ◌≡◌, List, IsTrue, Some, false};
     ghost use Rattle.kv_outside.specs.Disk.{Touches};
     ghost use Rattle.redis_model.specs.Asks as ask;
-    ghost use Rattle.redis_model.specs.Built.{built};
     ghost use Rattle.redis_model.specs.Desk.{TakesCall};
     ghost use Rattle.redis_model.specs.Limits.{IsWithin, IsDue};
     ghost use Rattle.redis_model.specs.Machine.{State};
@@ -87,7 +86,6 @@ impl<'a, P: Store<F>, F: Files, C: Clock> Desk for LogDesk<'a, P, F, C> {
         requires reading { self.old.last ≡ Some now }
         requires within { IsWithin command }
         requires due { IsDue command }
-        requires built { IsTrue (built command) }
         ensures call { TakesCall
             (told_of (parts (P.kept self.old.kept.now) (F.disk self.old.files.now)
             (F.faults self.old.files.now) (C.readings self.old.clock.now)

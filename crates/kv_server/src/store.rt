@@ -6,7 +6,6 @@ ghost use Rattle.redis_model.specs.Machine.{State};
 ghost use Rattle.lives_model.specs.Plans.{AreAsked};
 ghost use Rattle.log_store.specs.Keeping.{KeptState, IsKept, StandsFor, log_file};
 ghost use Rattle.log_store.specs.Playing.{batches, IsBeforeOrAfter, IsBodyOfPlan, IsSized, IsUnchanged, PlayFails, Plays};
-ghost use Rattle.multi_exec.specs.Built.{IsBuilt};
 
 use kv_outside::Files;
 use log_store::LogStore;
@@ -37,7 +36,6 @@ pub trait Store<F: Files> {
         commands: &Cmds,
     ) -> Result<Reply, DeskFault>
         requires asked { AreAsked commands.now }
-        requires built { IsBuilt commands.now }
         ensures ok { IfOk result (λ reply. Plays (kept self.old) (kept self.new) now commands.now reply) }
         ensures sequence { OnOk result ((kept self.new).sequence ≡ (kept self.old).sequence + batches (kept self.new).planned) }
         ensures fits { OnOk result ((kept self.new).planned ≤ longest_body) }

@@ -16,7 +16,7 @@ use std::test::Fail;
 use test_requests::{request_of, words_of};
 
 /// The moment of all plans.
-const MOMENT: u64 = 5;
+pub const MOMENT: u64 = 5;
 
 /// How many batches a test writes at most.
 const MOST: u64 = 1 << 40;
@@ -32,7 +32,7 @@ struct Store {
 type Cost = (Asked, usize);
 
 /// The data command of these words, if it is one.
-fn command_of(alloc: Global, words: Blobs) -> Option<Command>
+pub fn command_of(alloc: Global, words: Blobs) -> Option<Command>
     requires { AreRequestWords words }
     ensures { IfSome result IsWithin }
 {
@@ -46,7 +46,7 @@ fn command_of(alloc: Global, words: Blobs) -> Option<Command>
 fn plan_of(alloc: Global, store: &mut Store, command: &Command) -> Option<Plan>
     requires { IsWithin command.now }
 {
-    if MOST <= store.sequence || !command.is_built() {
+    if MOST <= store.sequence {
         return None;
     }
     plan(alloc, &mut store.view, MOMENT, store.sequence, command).ok()
@@ -73,7 +73,7 @@ fn run(alloc: Global, store: &mut Store, words: Blobs) -> Result<Cost, Fail> {
 }
 
 /// The words of a command on a key, with so many elements behind it: fields with their values, or members or items alone.
-fn words_with(
+pub fn words_with(
     rt: HostRuntime,
     name: &str,
     key: &str,

@@ -5,3 +5,5 @@
 mod costs;
 #[cfg(test)]
 mod counting;
+#[cfg(test)]
+mod transactions;

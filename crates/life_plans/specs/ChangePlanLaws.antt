@@ -52,7 +52,7 @@ use Rattle.life_plans.specs.ChangeSizeLaws.{IsHeldLife, held, finds_life, wanted
 -- ---- a command that leaves all as it is
 
 -- what is at a key there already
-insert_there : (m : RedisMap) (k : Bytes) (e : Entry) → get m k ≡ Some e → insert m k e ≡ m
+pub insert_there : (m : RedisMap) (k : Bytes) (e : Entry) → get m k ≡ Some e → insert m k e ≡ m
 insert_there m k e there = same_map (insert m k e) m (λ q. get-insert m k e q ∙ by_test q (same q k) refl)
   where
     by_test : (q : Bytes) (s : Bool) → same q k ≡ s → cond s (Some e) (get m q) ≡ get m q
@@ -69,7 +69,7 @@ quiet m t d k answer is one again =
     ∙ ap (λ b. cond (not b) (k ∷ []) []) ((same_entry_decides (get m k) (get m k)).1 refl)
 
 -- so it writes nothing, and looks ahead to the deadline of its key
-quiet_plan : {c : Rows} {t : ℕ} {m : RedisMap} (fresh : ℕ) (d : Command) (k : Bytes) (answer : Reply)
+pub quiet_plan : {c : Rows} {t : ℕ} {m : RedisMap} (fresh : ℕ) (d : Command) (k : Bytes) (answer : Reply)
     → Means c t m → carried_out m t d ≡ Ok (answer, m) → keys_of d ≡ k ∷ [] → among (written_again m m d) k ≡ false
     → IsPlanOf c t fresh m d empty answer (least_above t (deadline_in (live_at c t k) ∷ []))
 quiet_plan {c} {t} {m} fresh d k answer means is one again =
@@ -77,7 +77,7 @@ quiet_plan {c} {t} {m} fresh d k answer means is one again =
     (idle_plan fresh d answer means (quiet m t d k answer is one again) (sym (ap (λ r. r.0) (apply_done m t d (answer, m) is))))
 
 -- an error does so too
-faulty_plan : {c : Rows} {t : ℕ} {m : RedisMap} (fresh : ℕ) (d : Command) (k : Bytes) (e : ReplyError)
+pub faulty_plan : {c : Rows} {t : ℕ} {m : RedisMap} (fresh : ℕ) (d : Command) (k : Bytes) (e : ReplyError)
     → Means c t m → carried_out m t d ≡ Err e → keys_of d ≡ k ∷ []
     → IsPlanOf c t fresh m d empty (reply.Error e) (least_above t (deadline_in (live_at c t k) ∷ []))
 faulty_plan {c} {t} {m} fresh d k e means is one = one_key_ahead c t fresh m d (reply.Error e) k one (refused_plan fresh d e means is)
@@ -120,11 +120,11 @@ module _ {A : Type 0} {kind : Kind A} {code : Code} {row : A → Bytes → Optio
 -- ---- the plan
 
 -- a size that is neither too large nor 0 fits metadata
-size_fits : (n : ℕ) → nat_lt max_size n ≡ false → (n == 0) ≡ false → IsTrue (is_size n)
+pub size_fits : (n : ℕ) → nat_lt max_size n ≡ false → (n == 0) ≡ false → IsTrue (is_size n)
 size_fits n small some = grind (arith, nat_tests)
 
 -- what is at a key lives
-lives_there : {c : Rows} {t : ℕ} {m : RedisMap} (means : Means c t m) (k : Bytes) → lives t (deadline_in (live_at c t k)) ≡ true
+pub lives_there : {c : Rows} {t : ℕ} {m : RedisMap} (means : Means c t m) (k : Bytes) → lives t (deadline_in (live_at c t k)) ≡ true
 lives_there {c} {t} {m} means k = ap (lives t) (sym (seen_deadline means k)) ∙ by_entry (get m k) (means.stands k)
   where
     by_entry : (o : Option Entry) → MeansAt c t k o → lives t (option_and_then (λ e. e.deadline) o) ≡ true

@@ -146,7 +146,7 @@ module _ {A : Type 0} {kind : Kind A} {code : Code} {row : A → Bytes → Optio
           (record { entry = x; there = e; stands = s; value = stands.is x.value a sees; goes = refl })
 
   -- the version of the life that goes on is within its limit
-  held_version : (c : Rows) (t : ℕ) (m : RedisMap) (k : Bytes) (fresh : ℕ) (found : Option LifeSight) (a : A) → IsTrue (is_version fresh) → IsHeldLife kind c t m k found a → IsTrue (is_version (life_on fresh found).version)
+  pub held_version : (c : Rows) (t : ℕ) (m : RedisMap) (k : Bytes) (fresh : ℕ) (found : Option LifeSight) (a : A) → IsTrue (is_version fresh) → IsHeldLife kind c t m k found a → IsTrue (is_version (life_on fresh found).version)
   held_version c t m k fresh None a fits h = fits
   held_version c t m k fresh (Some life) a fits h =
       ap is_version (sym h.goes)

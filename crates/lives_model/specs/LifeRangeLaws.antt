@@ -72,7 +72,7 @@ items_are head (v ∷ l) = ap (λ vs. v ∷ vs) (items_are (head + 1) l)
 -- ---- members by score
 
 -- a member below a score, by its bytes
-below_score : (e : Scored) (s : ℤ) → IsTrue (fits e.1) → IsTrue (fits s) → is_lt (byte_cmp (rank_key e) (u64 (score_number s))) ≡ not (int_le s e.1)
+pub below_score : (e : Scored) (s : ℤ) → IsTrue (fits e.1) → IsTrue (fits s) → is_lt (byte_cmp (rank_key e) (u64 (score_number s))) ≡ not (int_le s e.1)
 below_score e s h g =
     ap (λ (x : Bytes). is_lt (byte_cmp (rank_key e) x)) (sym (append-nil (u64 (score_number s))))
     ∙ ap is_lt (by_fronts (u64 (score_number e.1)) (u64 (score_number s)) e.0 [] (length-u64 (score_number e.1) ∙ sym (length-u64 (score_number s)))

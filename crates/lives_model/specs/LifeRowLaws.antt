@@ -140,7 +140,7 @@ pub whole_fits : (s : ℤ) → IsWholeScore s → IsTrue (fits s)
 whole_fits s h = grind (arith, nat_tests, ints)
 
 -- the order of what members stand under is that of their ranks
-rank_keys : (a b : Scored) → IsTrue (fits a.1) → IsTrue (fits b.1) → byte_cmp (rank_key a) (rank_key b) ≡ rank_cmp a b
+pub rank_keys : (a b : Scored) → IsTrue (fits a.1) → IsTrue (fits b.1) → byte_cmp (rank_key a) (rank_key b) ≡ rank_cmp a b
 rank_keys a b h g =
     by_fronts (u64 (score_number a.1)) (u64 (score_number b.1)) a.0 b.0 (length-u64 (score_number a.1) ∙ sym (length-u64 (score_number b.1)))
     ∙ ap (λ o. ordering_then o (byte_cmp a.0 b.0))
@@ -231,7 +231,7 @@ sorted_put (e ∷ es) = is_sorted-put byte_cmp nat_list_cmp_total (rank_key e) [
 -- ---- a member by its score
 
 -- bytes that are what a member stands under are read as its score and itself
-read_rank : (e : Scored) (q : Bytes) → IsTrue (fits e.1) → same q (rank_key e) ≡ true → read_u64 q ≡ Some (score_number e.1, e.0)
+pub read_rank : (e : Scored) (q : Bytes) → IsTrue (fits e.1) → same q (rank_key e) ≡ true → read_u64 q ≡ Some (score_number e.1, e.0)
 read_rank e q h is = ap read_u64 (same_is q (rank_key e) is) ∙ u64_is_read (score_number e.1) (score_number_low e.1 h) e.0
 
 -- the row of a member, by its score among these

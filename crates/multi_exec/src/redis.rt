@@ -1,17 +1,18 @@
 use crate::dispatch::plan;
+use crate::transaction::plan_all;
 use kv_base::StoreFault;
 use lives_model::{Plan, Planner, RawView};
 use redis_model::Cmds;
 use std::alloc::Global;
 
-/// Plans the commands that are carried out by now, one at a time.
+/// Plans every command, and the commands of a transaction one after the other.
 #[derive(Clone, Copy, Drop)]
 pub struct Redis;
 
 impl Planner for Redis {
-    ghost use Rattle.multi_exec.specs.Built.{IsBuilt};
+    ghost use Rattle.lives_model.specs.Plans.{AreAsked};
 
-    ghost plans = { IsBuilt };
+    ghost plans = { AreAsked };
 
     fn plan<V: RawView>(
         &self,
@@ -23,7 +24,7 @@ impl Planner for Redis {
     ) -> Result<Plan, StoreFault> {
         match commands {
             Cmds::One(command) => plan(alloc, view, moment, base, command),
-            Cmds::Many(_) => unreachable!(),
+            Cmds::Many(commands) => plan_all(alloc, view, moment, base, commands),
         }
     }
 }

@@ -7,7 +7,7 @@ use Rattle.redis_model.specs.declared.command.Command.{Command}
 use Rattle.redis_model.specs.declared.desk.DeskFault.{DeskFault}
 use Rattle.redis_model.specs.declared.reply.Reply.{Reply}
 use Rattle.redis_model.specs.Asks as ask
-use Rattle.redis_model.specs.Built.{built}
+use Rattle.session.specs.Unserved.{is_unserved}
 use Rattle.redis_model.specs.DeskState.{DeskState}
 use Rattle.cmd_words.specs.Parsed.{parsed_as, IsParsed}
 use Rattle.cmd_words.specs.declared.fault.CommandFault.{CommandFault}
@@ -69,13 +69,13 @@ module _ {D : Type 0} (told : D → DeskState) where
   answered_on (Err fault) = refl
 
   -- and no command is answered so
-  by_command : (c : Command) (b : Bool) (old new : D) (said : Answer) → TurnBy told old new (cond b (ToDesk (ask.Call c)) (Own answer.Unserved)) said → quits said ≡ false
-  by_command c true old new said p = ap quits p.says ∙ answered_on p.result
-  by_command c false old new said p = ap quits p.0
+  by_command : (c : Command) (b : Bool) (old new : D) (said : Answer) → TurnBy told old new (cond b (Own answer.Unserved) (ToDesk (ask.Call c))) said → quits said ≡ false
+  by_command c true old new said p = ap quits p.0
+  by_command c false old new said p = ap quits p.says ∙ answered_on p.result
 
   -- by what the words were read into
   by_read : (read all : Result Parsed CommandFault) (old new : D) (said : Answer) → IsParsed read all → TurnBy told old new (asked read) said → quits said ≡ is_quit_by all
-  by_read (Ok (parsed.Data c)) all old new said is p = by_command c (built c) old new said p ∙ sym (ap is_quit_by is)
+  by_read (Ok (parsed.Data c)) all old new said is p = by_command c (is_unserved c) old new said p ∙ sym (ap is_quit_by is)
   by_read (Ok parsed.Quit) all old new said is p = ap quits p.0 ∙ sym (ap is_quit_by is)
   by_read (Ok _) all old new said is p = ap quits p.0 ∙ sym (ap is_quit_by is)
   by_read (Err fault.NoMem) all old new said is p = ap quits p.0 ∙ sym (no_quit all is)

@@ -1,4 +1,5 @@
 pub mod Answer
+pub mod Unserved
 pub mod Talk
 pub mod Quits
 pub mod QuitLaws

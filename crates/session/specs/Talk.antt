@@ -5,7 +5,6 @@ use Rattle.kv_base.specs.Map.{Bytes}
 use Rattle.redis_model.specs.declared.desk.DeskFault.{DeskFault}
 use Rattle.redis_model.specs.declared.reply.Reply.{Reply}
 use Rattle.redis_model.specs.Asks.{Ask, Call, due}
-use Rattle.redis_model.specs.Built.{built}
 use Rattle.redis_model.specs.DeskState.{DeskState}
 use Rattle.redis_model.specs.Desk.{TakesOnlyReading, TakesCall}
 use Rattle.redis_model.specs.Limits.{IsWithin}
@@ -16,6 +15,7 @@ use Rattle.cmd_words.specs.declared.parsed.Parsed.TheVariants as parsed
 use Rattle.session.specs.declared.answer.Answer.{Answer}
 use Rattle.session.specs.declared.answer.Answer.TheVariants as answer
 use Rattle.session.specs.Answer.{say, desk_answer}
+use Rattle.session.specs.Unserved.{is_unserved}
 
 -- What is asked for goes to the desk, or has an answer of the session's own.
 pub data Asked : Type 0 where
@@ -24,7 +24,7 @@ pub data Asked : Type 0 where
 
 -- what words ask for that were read so
 abbrev pub asked : Result Parsed CommandFault → Asked
-asked (Ok (parsed.Data c)) = if built c then ToDesk (Call c) else Own answer.Unserved
+asked (Ok (parsed.Data c)) = if is_unserved c then Own answer.Unserved else ToDesk (Call c)
 asked (Ok parsed.Quit) = Own answer.Quit
 asked (Ok _) = Own answer.Unserved
 asked (Err fault) = Own (answer.Refused fault)

@@ -1,9 +1,9 @@
 ghost use Rattle.std.specs.Prelude.{◌≡◌, IsTrue, Ok};
 ghost use Rattle.redis_model.specs.Asks.{Call};
-ghost use Rattle.redis_model.specs.Built.{built};
 ghost use Rattle.redis_model.specs.Limits.{IsWithin};
 ghost use Rattle.cmd_words.specs.Words.{AreRequestWords};
 ghost use Rattle.session.specs.Talk.{Asks, Turn, TurnBy, IsLawful, asked};
+ghost use Rattle.session.specs.Unserved.{is_unserved};
 
 use crate::answer::Answer;
 use cmd_words::{Parsed, parse};
@@ -12,10 +12,8 @@ use redis_model::{Command, Desk};
 use std::alloc::Global;
 
 /// Puts a command to the desk, at the next reading of its clock.
-#[tactic(auto, using(redis_model::specs::BuiltLaws::built_due))]
 fn ask<D: Desk>(desk: &mut D, mut command: Command) -> Answer
     requires within { IsWithin command }
-    requires built { IsTrue (built command) }
     ensures asks { Asks D.told desk.old desk.new (Call command) result }
     ensures loans { D.loans desk.new ≡ D.loans desk.old }
 {
@@ -33,11 +31,24 @@ fn put<D: Desk>(desk: &mut D, command: Command) -> Answer
     ensures turn { TurnBy D.told desk.old desk.new (asked (Ok (Parsed.Data command))) result }
     ensures loans { D.loans desk.new ≡ D.loans desk.old }
 {
-    if !command.is_built() {
+    if is_unserved(&command) {
         drop(command);
         return Answer::Unserved;
     }
     ask(desk, command)
+}
+
+/// Is it one that is not served yet?
+fn is_unserved(command: &Command) -> bool
+    ensures { result ≡ is_unserved command.now }
+{
+    match command {
+        Command::ZRemRangeByRank(_, _, _, _)
+        | Command::ZRemRangeByScore(_, _, _, _)
+        | Command::ZPopMin(_, _, _)
+        | Command::ZPopMax(_, _, _) => true,
+        _ => false,
+    }
 }
 
 /// Answers what words were read into.

@@ -1,0 +1,4 @@
+pub mod Planned
+pub mod PlannedLaws
+pub mod ScoreLaws
+pub mod CommandLaws

@@ -1,0 +1,5 @@
+pub mod Scorings
+pub mod ScoringLaws
+pub mod ScoreRowLaws
+pub mod ScorePlans
+pub mod ScorePlanLaws

@@ -1,0 +1,2 @@
+pub mod ReadPlans
+pub mod ReadPlanLaws
