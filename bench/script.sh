@@ -75,6 +75,21 @@ elif kind == "pops":
 elif kind == "sadds":
     for i in range(count):
         out.write(request(b"SADD", b"tags:%d" % (i * 7919 % 100), b"m%d" % i))
+elif kind == "zadds":
+    for i in range(count):
+        out.write(request(b"ZADD", b"board", b"%d" % (i * 7919 % 1000), b"m%d" % (i * 7919 % 100000)))
+elif kind == "zincrs":
+    # of the members of `zadds`
+    for i in range(count):
+        out.write(request(b"ZINCRBY", b"board", b"1", b"m%d" % (i * 7919 % 100000)))
+elif kind == "ranges":
+    # the ten lowest of a thousand members
+    members = [word for i in range(1000) for word in (b"%d" % (i * 7919 % 1000), b"m%d" % i)]
+    out.write(request(b"DEL", b"board") + request(b"ZADD", b"board", *members))
+    out.write(request(b"ZRANGE", b"board", b"0", b"9", b"WITHSCORES") * count)
+elif kind == "one_zadd":
+    # so many members of one sorted set in one command, out of order
+    out.write(request(b"ZADD", b"z", *[word for i in range(count) for word in (b"%d" % (i % 1000), b"m%d" % (i * 7919 % count))]))
 elif kind == "one_hset":
     # so many fields of one hash in one command, out of order
     out.write(request(b"HSET", b"h", *[word for i in range(count) for word in (b"f%d" % (i * 7919 % count), b"v")]))
@@ -153,6 +168,7 @@ measure "1,000,000 inline PINGs" inline 1000000 1000000
 measure "50,000 GETs" gets 50000 50000
 measure "100,000 GETs" gets 100000 100000
 measure "200,000 GETs" gets 200000 200000
+measure "20,000 ZRANGEs of ten" ranges 20000 20000
 measure "one request of 16,384 empty words" empty 16384 1
 measure "one request of 32,768 empty words" empty 32768 1
 measure "one request of 65,536 empty words" empty 65536 1
@@ -278,6 +294,8 @@ durable "durable HSETs of one field" hsets 1000
 durable "durable RPUSHs" pushes 1000
 durable "durable LPOPs" pops 1000 pushes
 durable "durable SADDs" sadds 1000
+durable "durable ZADDs" zadds 1000
+durable "durable ZINCRBYs" zincrs 1000 zadds
 
 # many NAME KIND COUNT HALF [BEFORE]: one command with so many keys, and one with half as many. Each is the best of five
 # sessions, from the command's first byte to its answer. Requests of the kind BEFORE are carried out in front of it.
@@ -337,6 +355,7 @@ many "one DEL" one_del 65535 32767 filling
 many "one MSET" one_mset 32767 16383
 many "one HSET" one_hset 32767 16383
 many "one SADD" one_sadd 65534 32767
+many "one ZADD" one_zadd 32767 16383
 many "one SUNIONSTORE of half as many each" one_store 65534 32767 two_sets
 
 # opening COUNT: a log of so many small SETs is opened, and nothing asked
