@@ -1,5 +1,5 @@
 -- What a session says at a desk whose caller is alone is what the machine says.
-use Rattle.std.proofs.Common.{◌≡◌, ◌⊎◌, ◌≤◌, ◌<◌, ◌+◌, arith, ⊎_elim, inl, inr, ℕ, Bool, true, false, List, [], ◌∷◌, ◌++◌, length, Option, Some, None, Result, Ok, Err, refl, sym, ap, subst, ◌∙◌}
+use Rattle.std.proofs.Common.{◌≡◌, ◌⊎◌, ◌≤◌, ◌<◌, ◌+◌, arith, ⊎_elim, inl, inr, ℕ, Bool, false, List, [], ◌∷◌, ◌++◌, length, Option, Some, None, Result, Ok, Err, refl, sym, ap, subst, ◌∙◌}
 use Rattle.std.specs.Prelude.{Contains, IsFalse, IsSome, OnErr, ◌==◌, if◌then◌else◌}
 use Rattle.std.proofs.lemmas.List.{append-nil}
 use Rattle.std.proofs.lemmas.List.Elements.{Contains-push_cases}
@@ -21,7 +21,6 @@ use Rattle.redis_model.specs.declared.reply.Reply.{Reply}
 use Rattle.redis_model.specs.About.{writes}
 use Rattle.redis_model.specs.Apply.{due}
 use Rattle.redis_model.specs.Asks as ask
-use Rattle.session.specs.Unserved.{is_unserved}
 use Rattle.redis_model.specs.DeskState.{DeskState}
 use Rattle.redis_model.specs.Places.{Opening, steps_of, state_at}
 use Rattle.redis_model.specs.Desk.{mine, has_pin, IsTicked, IsWithheld as IsWithheldEntry, Entered, Withheld, LeavesPlaces, HasReason, can_write, failed_with, last_sequence}
@@ -36,7 +35,6 @@ use Rattle.cmd_words.specs.declared.fault.CommandFault.{CommandFault}
 use Rattle.cmd_words.specs.declared.parsed.Parsed.{Parsed}
 use Rattle.cmd_words.specs.declared.parsed.Parsed.TheVariants as parsed
 use Rattle.session.specs.declared.answer.Answer.{Answer}
-use Rattle.session.specs.declared.answer.Answer.TheVariants as answer
 use Rattle.session.specs.Answer.{desk_answer}
 use Rattle.session.specs.Talk.{Asked, ToDesk, Own, asked, Asks, TurnBy as TurnAt, Talks}
 use Rattle.log_store.specs.Playing.{batches_of, planned_for}
@@ -162,12 +160,8 @@ IsOfCalls (ToDesk (ask.Call c)) = Unit {0}
 IsOfCalls (ToDesk _) = ⊥
 IsOfCalls (Own said) = Unit {0}
 
-of_served : (c : Command) (b : Bool) → IsOfCalls (if b then Own answer.Unserved else ToDesk (ask.Call c))
-of_served c true = tt
-of_served c false = tt
-
 of_calls : (read : Result Parsed CommandFault) → IsOfCalls (asked read)
-of_calls (Ok (parsed.Data c)) = of_served c (is_unserved c)
+of_calls (Ok (parsed.Data c)) = tt
 of_calls (Ok _) = tt
 of_calls (Err fault) = tt
 

@@ -1,4 +1,4 @@
-//! Words that no transcript shows: of commands that are not carried out yet, and of what is no data command.
+//! Words that no transcript shows: of commands on sorted sets, and of what is no data command.
 //! A case is a line, whose words are parted by one space, and what is wanted of it.
 
 use cmd_words::{Parsed, parse};
@@ -34,7 +34,7 @@ fn name_of(parsed: &Parsed) -> &'static str {
     }
 }
 
-/// Commands that are not carried out yet: with the fewest words that each takes, and with its options.
+/// Commands on sorted sets: with the fewest words that each takes, and with its options.
 const DATA: &str = "ZADD k 1 m -2.0 n, ZADD k NX 1 m, ZADD k nx nx ch 1 m 2 n, ZADD k xx incr 1 m, \
     ZADD k 1 nx, ZREM k m n, ZSCORE k m, ZCARD k, ZCOUNT k -inf +INF, ZRANK k m, ZREVRANK k m, \
     ZRANGE k 0 -1, ZRANGE k 0 1 WITHSCORES, ZREVRANGE k 0 1 withscores, ZRANGEBYSCORE k (1 2, \

@@ -93,18 +93,38 @@ pub fn words_with(
     Ok(words)
 }
 
-/// A store with a hash h, a list l and sets s and t of this many elements, e00000 and so on.
-fn filled(rt: HostRuntime, size: usize) -> Result<Store, Fail> {
-    let mut store = Store {
-        view: CountingView::new(rt.alloc()),
+/// The words of a command that gives members scores on a key: this many, of which each has its number as its score.
+fn words_with_scores(rt: HostRuntime, key: &str, size: usize) -> Result<Blobs, Fail> {
+    let mut words = Blobs::new(rt.alloc());
+    words.push(Blob::copy(rt.alloc(), b"ZADD")?)?;
+    words.push(Blob::copy(rt.alloc(), key.as_bytes())?)?;
+    for at in 0..size {
+        let score = format!(in rt.alloc(); "{at}")?;
+        let member = format!(in rt.alloc(); "e{at:05}")?;
+        words.push(Blob::copy(rt.alloc(), score.as_bytes())?)?;
+        words.push(Blob::copy(rt.alloc(), member.as_bytes())?)?;
+    }
+    Ok(words)
+}
+
+fn empty_store(alloc: Global) -> Store {
+    Store {
+        view: CountingView::new(alloc),
         sequence: 0,
-    };
+    }
+}
+
+/// A store with a hash h, a list l, sets s and t, and a sorted set z of this many elements, e00000 and so on.
+fn filled(rt: HostRuntime, size: usize) -> Result<Store, Fail> {
+    let mut store = empty_store(rt.alloc());
     let hash = words_with(rt, "HSET", "h", size, true)?;
     run(rt.alloc(), &mut store, hash)?;
     for (name, key) in [("RPUSH", "l"), ("SADD", "s"), ("SADD", "t")] {
         let words = words_with(rt, name, key, size, false)?;
         run(rt.alloc(), &mut store, words)?;
     }
+    let scores = words_with_scores(rt, "z", size)?;
+    run(rt.alloc(), &mut store, scores)?;
     Ok(store)
 }
 
@@ -116,7 +136,7 @@ fn cost_of(rt: HostRuntime, size: usize, line: &str) -> Result<Cost, Fail> {
 }
 
 /// Commands that look up single rows, one after the other over one store: how many, and how many rows they write.
-const SINGLE: [(&str, u64, usize); 25] = [
+const SINGLE: [(&str, u64, usize); 35] = [
     ("HGET h e00003", 2, 0),
     ("HEXISTS h f", 2, 0),
     ("HMGET h e00003 f", 3, 0),
@@ -141,7 +161,17 @@ const SINGLE: [(&str, u64, usize); 25] = [
     ("RPOP l", 2, 2),
     ("LTRIM l 1 -3", 1, 4),
     ("RPOPLPUSH l m", 3, 4),
-    ("DEL h l s t", 4, 4),
+    ("ZSCORE z e00003", 2, 0),
+    ("ZCARD z", 1, 0),
+    ("ZADD z 7 f", 2, 3),
+    ("ZADD z 7 f", 2, 0),
+    ("ZADD z 8 f", 2, 4),
+    ("ZADD z NX 9 f", 2, 0),
+    ("ZADD z INCR 1 f", 2, 4),
+    ("ZINCRBY z 1 f", 2, 4),
+    ("ZREM z f", 2, 3),
+    ("ZREM z f", 2, 0),
+    ("DEL h l s t z", 5, 5),
 ];
 
 #[test]
@@ -197,10 +227,7 @@ fn of_sets_that_are_combined_one_is_walked(rt: HostRuntime) -> Result<(), Fail> 
 
 #[test]
 fn a_large_collection_is_deleted_by_one_row(rt: HostRuntime) -> Result<(), Fail> {
-    let mut store = Store {
-        view: CountingView::new(rt.alloc()),
-        sequence: 0,
-    };
+    let mut store = empty_store(rt.alloc());
     let members = words_with(rt, "SADD", "s", 50000, false)?;
     let (_, rows) = run(rt.alloc(), &mut store, members)?;
     assert!(rt; rows == 50001);
@@ -215,5 +242,55 @@ fn a_large_collection_is_deleted_by_one_row(rt: HostRuntime) -> Result<(), Fail>
             1
         )
     );
+    Ok(())
+}
+
+/// Commands that walk the side of scores, one after the other over a store with a sorted set of 2,500 members, each with its
+/// number as its score: how many values they look up, how many pages they ask for, how many rows these have, and how many rows
+/// they write.
+const WALKS: [(&str, (u64, u64, u64), usize); 14] = [
+    ("ZRANK z e00000", (2, 1, 1024), 0),
+    ("ZRANK z e02000", (2, 2, 2048), 0),
+    ("ZREVRANK z e02000", (2, 1, 500), 0),
+    ("ZRANGE z 0 9", (1, 1, 10), 0),
+    ("ZRANGE z 1500 1502", (1, 2, 1503), 0),
+    ("ZCOUNT z 2000 2099", (1, 1, 500), 0),
+    ("ZRANGEBYSCORE z 2000 2002", (1, 1, 500), 0),
+    ("ZRANGEBYSCORE z (1999 +inf LIMIT 0 3", (1, 1, 3), 0),
+    ("ZREMRANGEBYSCORE z 2000 2002", (1, 1, 500), 7),
+    ("ZREMRANGEBYRANK z 1500 1502", (1, 2, 1503), 7),
+    ("ZREMRANGEBYRANK z 0 2", (1, 1, 3), 7),
+    ("ZPOPMIN z", (1, 1, 1), 3),
+    ("ZPOPMIN z 3", (1, 1, 3), 7),
+    ("ZPOPMAX z 2", (1, 3, 2487), 5),
+];
+
+#[test]
+fn members_by_rank_come_in_pages_from_where_they_begin(rt: HostRuntime) -> Result<(), Fail> {
+    let mut store = empty_store(rt.alloc());
+    let scores = words_with_scores(rt, "z", 2500)?;
+    run(rt.alloc(), &mut store, scores)?;
+    for (line, (lookups, ranges, rows), written) in WALKS {
+        let words = words_of(rt.alloc(), line)?;
+        let cost = run(rt.alloc(), &mut store, words)?;
+        let asked = Asked {
+            lookups,
+            ranges,
+            rows,
+        };
+        assert!(rt; cost == (asked, written), "{line}");
+    }
+    Ok(())
+}
+
+#[test]
+fn the_lowest_member_is_taken_whatever_the_size(rt: HostRuntime) -> Result<(), Fail> {
+    let first = Asked {
+        lookups: 1,
+        ranges: 1,
+        rows: 1,
+    };
+    assert!(rt; cost_of(rt, 10, "ZPOPMIN z")? == (first, 3));
+    assert!(rt; cost_of(rt, 1000, "ZPOPMIN z")? == (first, 3));
     Ok(())
 }

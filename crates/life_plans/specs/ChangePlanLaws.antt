@@ -69,10 +69,10 @@ quiet m t d k answer is one again =
     ∙ ap (λ b. cond (not b) (k ∷ []) []) ((same_entry_decides (get m k) (get m k)).1 refl)
 
 -- so it writes nothing, and looks ahead to the deadline of its key
-pub quiet_plan : {c : Rows} {t : ℕ} {m : RedisMap} (fresh : ℕ) (d : Command) (k : Bytes) (answer : Reply)
+pub idle_plan_ahead : {c : Rows} {t : ℕ} {m : RedisMap} (fresh : ℕ) (d : Command) (k : Bytes) (answer : Reply)
     → Means c t m → carried_out m t d ≡ Ok (answer, m) → keys_of d ≡ k ∷ [] → among (written_again m m d) k ≡ false
     → IsPlanOf c t fresh m d empty answer (least_above t (deadline_in (live_at c t k) ∷ []))
-quiet_plan {c} {t} {m} fresh d k answer means is one again =
+idle_plan_ahead {c} {t} {m} fresh d k answer means is one again =
     one_key_ahead c t fresh m d answer k one
     (idle_plan fresh d answer means (quiet m t d k answer is one again) (sym (ap (λ r. r.0) (apply_done m t d (answer, m) is))))
 
@@ -165,7 +165,7 @@ module _ {A : Type 0} {kind : Kind A} {code : Code} {row : A → Bytes → Optio
 
     -- an empty collection leaves no key
     emptied : (f : Option LifeSight) → IsHeldLife kind c t m k f a → again ≡ false → carried_out m t d ≡ Ok (answer, remove m k) → Plans c t fresh m d (emptied_plan t k (deadline_in (live_at c t k)) f answer)
-    emptied None h once_only comes = quiet_plan fresh d k answer means (comes ∙ ap (λ (n : RedisMap). Ok (answer, n)) (remove_nothing m k h.0)) one (rewrites m ∙ once_only)
+    emptied None h once_only comes = idle_plan_ahead fresh d k answer means (comes ∙ ap (λ (n : RedisMap). Ok (answer, n)) (remove_nothing m k h.0)) one (rewrites m ∙ once_only)
     emptied (Some life) h once_only comes = removed_plan fresh d k (meta_for h.entry.value h.stands.life h.stands.expire) answer means h.stands.meta comes one short
 
     -- where nothing differs the entry stays
@@ -231,7 +231,7 @@ module _ {A : Type 0} {kind : Kind A} {code : Code} {row : A → Bytes → Optio
         let tests = both_parts s in
         let same_rows = nothing_differs stands has c k fresh found a b wanted short finds w (number_is (size (differing c wanted)) 0 tests.1) in
         let stays_so = same_entry_there found (held stands means k found a is at) e (has.one a b same_rows) in
-        quiet_plan fresh d k answer means (comes_to false false l e ∙ ap (λ (n : RedisMap). Ok (answer, n)) stays_so) one (rewrites m ∙ tests.0)
+        idle_plan_ahead fresh d k answer means (comes_to false false l e ∙ ap (λ (n : RedisMap). Ok (answer, n)) stays_so) one (rewrites m ∙ tests.0)
       where
         both_parts : (not again && (size (differing c wanted) == 0)) ≡ true → (again ≡ false) × ((size (differing c wanted) == 0) ≡ true)
         both_parts h = by_again again (size (differing c wanted) == 0) refl h

@@ -111,7 +111,7 @@ module _ {X : Type 0} where
       by_order q Greater e = ap (λ b. cond b (get m q) None) (and_true (p q))
 
   -- the first of the entries that pass
-  pub record IsHead (p : Bytes → Bool) (m : Map X) (k : Bytes) (v : X) (es : List (Bytes × X)) : Type 0 where
+  pub record IsFirstPassing (p : Bytes → Bool) (m : Map X) (k : Bytes) (v : X) (es : List (Bytes × X)) : Type 0 where
     pub here : p k ≡ true
     pub got : get m k ≡ Some v
     pub below : NoneBelow p m k
@@ -129,7 +129,7 @@ module _ {X : Type 0} where
   find_at k (x ∷ es) h = ap (λ o. cond (is_eq o) (Some x.1) (find byte_cmp k es)) (less _ (first _ _ h)) ∙ find_at k es (second _ _ h)
 
   -- what is known of the first of those that pass
-  pub head_of : (p : Bytes → Bool) (m : Map X) (k : Bytes) (v : X) (es : List (Bytes × X)) → passing p m ≡ (k, v) ∷ es → IsHead p m k v es
+  pub head_of : (p : Bytes → Bool) (m : Map X) (k : Bytes) (v : X) (es : List (Bytes × X)) → passing p m ≡ (k, v) ∷ es → IsFirstPassing p m k v es
   head_of p m k v es is = record {
     here = own.0;
     got = own.1;

@@ -1,13 +1,9 @@
 -- Requests up to a QUIT.
 use Rattle.std.proofs.Common.{◌≡◌, Bool, true, false, ◌⊎◌, ⊎_elim, inl, inr, List, [], ◌∷◌, ◌++◌, Result, Ok, Err, refl, sym, ap, ◌∙◌, append_assoc}
-use Rattle.std.specs.Prelude.{cond}
 use Rattle.std.proofs.lemmas.List.Elements.{All-nil, All-cons, All-append}
 use Rattle.kv_base.specs.Map.{Bytes}
-use Rattle.redis_model.specs.declared.command.Command.{Command}
 use Rattle.redis_model.specs.declared.desk.DeskFault.{DeskFault}
 use Rattle.redis_model.specs.declared.reply.Reply.{Reply}
-use Rattle.redis_model.specs.Asks as ask
-use Rattle.session.specs.Unserved.{is_unserved}
 use Rattle.redis_model.specs.DeskState.{DeskState}
 use Rattle.cmd_words.specs.Parsed.{parsed_as, IsParsed}
 use Rattle.cmd_words.specs.declared.fault.CommandFault.{CommandFault}
@@ -15,9 +11,8 @@ use Rattle.cmd_words.specs.declared.fault.CommandFault.TheVariants as fault
 use Rattle.cmd_words.specs.declared.parsed.Parsed.{Parsed}
 use Rattle.cmd_words.specs.declared.parsed.Parsed.TheVariants as parsed
 use Rattle.session.specs.declared.answer.Answer.{Answer}
-use Rattle.session.specs.declared.answer.Answer.TheVariants as answer
 use Rattle.session.specs.Answer.{desk_answer, quits}
-use Rattle.session.specs.Talk.{ToDesk, Own, Turn, TurnBy, asked}
+use Rattle.session.specs.Talk.{Turn, TurnBy, asked}
 use Rattle.session.specs.Quits.{is_quit, is_quit_by, NoneQuits, LastQuits}
 
 -- ---- lists of requests
@@ -68,14 +63,9 @@ module _ {D : Type 0} (told : D → DeskState) where
   answered_on (Ok reply) = refl
   answered_on (Err fault) = refl
 
-  -- and no command is answered so
-  by_command : (c : Command) (b : Bool) (old new : D) (said : Answer) → TurnBy told old new (cond b (Own answer.Unserved) (ToDesk (ask.Call c))) said → quits said ≡ false
-  by_command c true old new said p = ap quits p.0
-  by_command c false old new said p = ap quits p.says ∙ answered_on p.result
-
   -- by what the words were read into
   by_read : (read all : Result Parsed CommandFault) (old new : D) (said : Answer) → IsParsed read all → TurnBy told old new (asked read) said → quits said ≡ is_quit_by all
-  by_read (Ok (parsed.Data c)) all old new said is p = by_command c (is_unserved c) old new said p ∙ sym (ap is_quit_by is)
+  by_read (Ok (parsed.Data c)) all old new said is p = ap quits p.says ∙ answered_on p.result ∙ sym (ap is_quit_by is)
   by_read (Ok parsed.Quit) all old new said is p = ap quits p.0 ∙ sym (ap is_quit_by is)
   by_read (Ok _) all old new said is p = ap quits p.0 ∙ sym (ap is_quit_by is)
   by_read (Err fault.NoMem) all old new said is p = ap quits p.0 ∙ sym (no_quit all is)

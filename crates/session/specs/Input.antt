@@ -1,5 +1,5 @@
 -- What a session answers to an input that is told, and how it ends there.
-use Rattle.std.specs.Prelude.{◌≡◌, ◌≢◌, ◌-◌, ◌^◌, ◌≤◌, ◌⊎◌, true, List, [], length}
+use Rattle.std.specs.Prelude.{◌≡◌, ◌≢◌, ◌^◌, ◌≤◌, ◌⊎◌, true, List, [], length}
 use Rattle.kv_base.specs.Map.{Bytes}
 use Rattle.resp_wire.specs.Grammar.{requests, Whole}
 use Rattle.session.specs.declared.session.Outcome.{Outcome}

@@ -1,5 +1,5 @@
 -- Laws on what stands in `Input.antt`.
-use Rattle.std.specs.Prelude.{◌≡◌, ◌-◌, ◌+◌, ◌⊎◌, ℕ, Bool, true, List, [], ◌++◌, length, Option, Some, None, refl}
+use Rattle.std.specs.Prelude.{◌≡◌, ◌-◌, ◌+◌, ℕ, Bool, true, List, [], ◌++◌, length, Option, Some, None, refl}
 use Rattle.std.specs.Io.KnownBytes.{Consumes}
 use Rattle.std.proofs.Common.{sym, ap, subst, ◌∙◌, append_assoc, ⊎_elim, inl, inr, arith}
 use Rattle.std.proofs.lemmas.List.{append-nil, length-append}

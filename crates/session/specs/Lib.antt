@@ -1,5 +1,4 @@
 pub mod Answer
-pub mod Unserved
 pub mod Talk
 pub mod Quits
 pub mod QuitLaws

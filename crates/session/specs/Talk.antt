@@ -1,5 +1,5 @@
 -- What the requests of one client are answered at a desk, one after the other.
-use Rattle.std.specs.Prelude.{◌≡◌, ℕ, if◌then◌else◌, List, [], ◌∷◌, Result, Ok, Err}
+use Rattle.std.specs.Prelude.{◌≡◌, ℕ, List, [], ◌∷◌, Result, Ok, Err}
 use Rattle.std.specs.List.{flat_map}
 use Rattle.kv_base.specs.Map.{Bytes}
 use Rattle.redis_model.specs.declared.desk.DeskFault.{DeskFault}
@@ -15,7 +15,6 @@ use Rattle.cmd_words.specs.declared.parsed.Parsed.TheVariants as parsed
 use Rattle.session.specs.declared.answer.Answer.{Answer}
 use Rattle.session.specs.declared.answer.Answer.TheVariants as answer
 use Rattle.session.specs.Answer.{say, desk_answer}
-use Rattle.session.specs.Unserved.{is_unserved}
 
 -- What is asked for goes to the desk, or has an answer of the session's own.
 pub data Asked : Type 0 where
@@ -24,7 +23,7 @@ pub data Asked : Type 0 where
 
 -- what words ask for that were read so
 abbrev pub asked : Result Parsed CommandFault → Asked
-asked (Ok (parsed.Data c)) = if is_unserved c then Own answer.Unserved else ToDesk (Call c)
+asked (Ok (parsed.Data c)) = ToDesk (Call c)
 asked (Ok parsed.Quit) = Own answer.Quit
 asked (Ok _) = Own answer.Unserved
 asked (Err fault) = Own (answer.Refused fault)

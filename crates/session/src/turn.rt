@@ -3,7 +3,6 @@ ghost use Rattle.redis_model.specs.Asks.{Call};
 ghost use Rattle.redis_model.specs.Limits.{IsWithin};
 ghost use Rattle.cmd_words.specs.Words.{AreRequestWords};
 ghost use Rattle.session.specs.Talk.{Asks, Turn, TurnBy, IsLawful, asked};
-ghost use Rattle.session.specs.Unserved.{is_unserved};
 
 use crate::answer::Answer;
 use cmd_words::{Parsed, parse};
@@ -25,32 +24,6 @@ fn ask<D: Desk>(desk: &mut D, mut command: Command) -> Answer
     }
 }
 
-/// Puts a command to the desk, where it is served by now.
-fn put<D: Desk>(desk: &mut D, command: Command) -> Answer
-    requires { IsWithin command }
-    ensures turn { TurnBy D.told desk.old desk.new (asked (Ok (Parsed.Data command))) result }
-    ensures loans { D.loans desk.new ≡ D.loans desk.old }
-{
-    if is_unserved(&command) {
-        drop(command);
-        return Answer::Unserved;
-    }
-    ask(desk, command)
-}
-
-/// Is it one that is not served yet?
-fn is_unserved(command: &Command) -> bool
-    ensures { result ≡ is_unserved command.now }
-{
-    match command {
-        Command::ZRemRangeByRank(_, _, _, _)
-        | Command::ZRemRangeByScore(_, _, _, _)
-        | Command::ZPopMin(_, _, _)
-        | Command::ZPopMax(_, _, _) => true,
-        _ => false,
-    }
-}
-
 /// Answers what words were read into.
 fn answer<D: Desk>(desk: &mut D, parsed: Parsed) -> Answer
     requires { IsLawful parsed }
@@ -58,7 +31,7 @@ fn answer<D: Desk>(desk: &mut D, parsed: Parsed) -> Answer
     ensures loans { D.loans desk.new ≡ D.loans desk.old }
 {
     match parsed {
-        Parsed::Data(command) => put(desk, command),
+        Parsed::Data(command) => ask(desk, command),
         Parsed::Quit => Answer::Quit,
         Parsed::Multi
         | Parsed::Exec

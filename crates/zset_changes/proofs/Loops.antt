@@ -3,7 +3,7 @@ use Rattle.std.proofs.Common.{◌≡◌, ℕ, zero, suc, ◌+◌, ◌<◌, sym, 
 use Rattle.std.proofs.lemmas.List.Sums.{fold_more, sum_by_more}
 use Rattle.kv_base.specs.Map.{Bytes, empty}
 use Rattle.zset_plans.specs.declared.scoring.Scoring.{Scoring}
-use Rattle.zset_plans.specs.Scorings.{comes, goes, with_scoring, scored_rows}
+use Rattle.zset_plans.specs.Scorings.{is_coming, is_going, with_scoring, scored_rows}
 use Rattle.zset_changes.specs.declared.rows.ScoringRows.{ScoringRows}
 use Rattle.zset_changes.specs.ScoreTables.{CanStand, AllStand}
 use Rattle.zset_changes.specs.ScoreRows.{TakesScoring, AreScored}
@@ -18,8 +18,8 @@ pub scored_next : (k : Bytes) (version : ℕ) (ss : List Scoring) (i : ℕ) (s :
 unfolding scored_rows
 scored_next k version ss i s old new low is so_far one = record {
   rows = one.rows ∙ (λ j. with_scoring k version (so_far.rows j) (is j)) ∙ sym (fold_more (with_scoring k version) empty ss i s low);
-  added = one.added ∙ (λ j. so_far.added j + cond (comes (is j)) 1 0) ∙ sym (sum_by_more (λ x. cond (comes x) 1 0) ss i s low);
-  removed = one.removed ∙ (λ j. so_far.removed j + cond (goes (is j)) 1 0) ∙ sym (sum_by_more (λ x. cond (goes x) 1 0) ss i s low);
+  added = one.added ∙ (λ j. so_far.added j + cond (is_coming (is j)) 1 0) ∙ sym (sum_by_more (λ x. cond (is_coming x) 1 0) ss i s low);
+  removed = one.removed ∙ (λ j. so_far.removed j + cond (is_going (is j)) 1 0) ∙ sym (sum_by_more (λ x. cond (is_going x) 1 0) ss i s low);
 }
 
 -- each of them can stand

@@ -22,13 +22,13 @@ use Rattle.lives_model.specs.Rows.{Rows}
 use Rattle.lives_model.specs.AskedKeyLaws.{name_is_key}
 use Rattle.plan_base.specs.declared.life.LifeSight.{LifeSight}
 use Rattle.zset_plans.specs.declared.scoring.Scoring.{Scoring}
-use Rattle.zset_plans.specs.Scorings.{scored_as, rescored, all_rescored, IsScoring, members_in, AreScorings, same_score}
+use Rattle.zset_plans.specs.Scorings.{scored_as, rescored, all_rescored, IsScoring, scored_members, AreScorings, same_score}
 use Rattle.zset_plans.specs.ScoringLaws.{get-scored}
 use Rattle.zset_changes.specs.declared.table.Track.{Track}
 use Rattle.zset_changes.specs.declared.add.Tally.{Tally}
 use Rattle.zset_changes.specs.declared.add.ScoresAdded.{ScoresAdded}
 use Rattle.zset_changes.specs.SeenScores.{member_score, TellsScores}
-use Rattle.zset_changes.specs.ScoreTables.{CanStand, AllStand, Tracked, tracks_in, scoring_of, scorings_of, IsTable, track_of, score_now, AreBefore, Leads, track_or, track_in, sets_score, AddsScore, TalliesTo, SetsScores, rest_of, TakesMember, Removes}
+use Rattle.zset_changes.specs.ScoreTables.{CanStand, AllStand, Tracked, tracks_in, scoring_of, scorings_of, IsScoreTable, track_of, score_now, AreBefore, Leads, track_or, track_in, sets_score, AddsScore, TalliesTo, SetsScores, rest_of, TakesMember, Removes}
 
 -- ---- one track more
 
@@ -42,7 +42,7 @@ stand_more (e ∷ es) x t all one = by_order (byte_cmp x e.0) refl (stand_more e
     by_order Greater is rest = (all.0, rest)
 
 -- a table stays one
-pub table_more : (es next : List Tracked) (x : Bytes) (t : Track) → IsTable es → CanStand (scoring_of (x, t)) → next ≡ insert_entry byte_cmp es x t → IsStrictlySortedBy byte_cmp (keys_of next) → IsTable next
+pub table_more : (es next : List Tracked) (x : Bytes) (t : Track) → IsScoreTable es → CanStand (scoring_of (x, t)) → next ≡ insert_entry byte_cmp es x t → IsStrictlySortedBy byte_cmp (keys_of next) → IsScoreTable next
 table_more es next x t table one is ordered = record {
   ordered = ordered;
   stand = subst (λ (ts : List Tracked). AllStand (scorings_of ts)) (sym is) (stand_more es x t table.stand one);
@@ -104,7 +104,7 @@ tracked_stands (e ∷ es) x t all is = by_test (same x e.0) is (tracked_stands e
     by_test true this rest = subst (λ (y : Track). IfSome y.before IsWholeScore) (same_some e.1 t this) all.0.before
     by_test false this rest = rest this
 
-pub track_stands : (es : List Tracked) (x : Bytes) (t : Track) → IsTable es → Some t ≡ track_of es x → IfSome t.before IsWholeScore
+pub track_stands : (es : List Tracked) (x : Bytes) (t : Track) → IsScoreTable es → Some t ≡ track_of es x → IfSome t.before IsWholeScore
 track_stands es x t table is = tracked_stands es x t table.stand (sym is)
 
 -- it begins with the score that the member has
@@ -141,7 +141,7 @@ leads_more z now es x t leads is = record {
     by_test q false = leads.scores q
 
 -- members that stand once
-none_among : (k : Bytes) (es : List Tracked) → AllByRecursion (λ y. byte_cmp k y ≡ Less) (keys_of es) → among (members_in (scorings_of es)) k ≡ false
+none_among : (k : Bytes) (es : List Tracked) → AllByRecursion (λ y. byte_cmp k y ≡ Less) (keys_of es) → among (scored_members (scorings_of es)) k ≡ false
 none_among k [] h = refl
 none_among k (e ∷ es) h = λ i. is_eq (h.0 i) || none_among k es h.1 i
 
@@ -171,7 +171,7 @@ get-tracked now (e ∷ es) x ordered =
     by_test false is = refl
 
 -- the scorings of a table
-pub table_scorings : (z now : Map ℤ) (es : List Tracked) (ss : List Scoring) → IsTable es → Leads z now es → ss ≡ scorings_of es → AreScorings z ss × (all_rescored z ss ≡ now)
+pub table_scorings : (z now : Map ℤ) (es : List Tracked) (ss : List Scoring) → IsScoreTable es → Leads z now es → ss ≡ scorings_of es → AreScorings z ss × (all_rescored z ss ≡ now)
 table_scorings z now es ss table leads is =
     subst (λ (ts : List Scoring). AreScorings z ts × (all_rescored z ts ≡ now)) (sym is)
     (are_scorings z es table.ordered table.stand leads.before, same_map _ now (λ x. get-tracked z es x table.ordered ∙ sym (leads.scores x)))
@@ -270,7 +270,7 @@ tallied_next (Some c) now k found w ss xs i x s d e old new low count member sco
 
 -- all pairs
 pub all_tallied : (rows : Option Rows) (k : Bytes) (found : Option LifeSight) (w : When) (ss : List ℤ) (xs : List Bytes) (i : ℕ) (tally : Tally) (set : ScoresAdded)
-    → i ≤ length xs → length xs ≤ i → length ss ≡ length xs → IsTable (tracks_in tally.table)
+    → i ≤ length xs → length xs ≤ i → length ss ≡ length xs → IsScoreTable (tracks_in tally.table)
     → IfSome rows (λ c. (z : Map ℤ) → TellsScores c k found z → TalliesTo (all_set w z (pairs_to ss xs i)) z tally)
     → set.scorings.items ≡ scorings_of (tracks_in tally.table) → set.added ≡ tally.added → set.changed ≡ tally.changed
     → IfSome rows (λ c. (z : Map ℤ) → TellsScores c k found z → SetsScores w z (zip xs ss) set)
@@ -300,9 +300,9 @@ rest_none z = same_map _ z (λ q. get-keep (λ x _. not (among [] x)) z q ∙ al
 pub none_removed : (z : Map ℤ) (es : List Tracked) → es ≡ [] → Leads z (rest_of z []) es
 none_removed z es is = subst (λ (m : Map ℤ). Leads z m es) (sym (rest_none z)) (leads_nowhere z es is)
 
-pub none_taken : (rows : Option Rows) (k : Bytes) (found : Option LifeSight) (es : List Tracked) → es ≡ [] → IfSome rows (λ c. (z : Map ℤ) → TellsScores c k found z → Leads z (rest_of z []) es)
-none_taken None k found es is = tt
-none_taken (Some c) k found es is = λ z tells. none_removed z es is
+pub no_member_removed : (rows : Option Rows) (k : Bytes) (found : Option LifeSight) (es : List Tracked) → es ≡ [] → IfSome rows (λ c. (z : Map ℤ) → TellsScores c k found z → Leads z (rest_of z []) es)
+no_member_removed None k found es is = tt
+no_member_removed (Some c) k found es is = λ z tells. none_removed z es is
 
 -- without one member more
 among_more : (xs : List Bytes) (x q : Bytes) → among (xs ++ x ∷ []) q ≡ (among xs q || same q x)
@@ -368,7 +368,7 @@ removed_next (Some c) now k found xs i x e old new low member same so_far one = 
 
 -- all members
 pub all_removed : (rows : Option Rows) (k : Bytes) (found : Option LifeSight) (xs : List Bytes) (i : ℕ) (es : List Tracked) (ss : List Scoring)
-    → i ≤ length xs → length xs ≤ i → IsTable es
+    → i ≤ length xs → length xs ≤ i → IsScoreTable es
     → IfSome rows (λ c. (z : Map ℤ) → TellsScores c k found z → Leads z (rest_of z (take i xs)) es)
     → ss ≡ scorings_of es
     → IfSome rows (λ c. (z : Map ℤ) → TellsScores c k found z → Removes z xs ss)

@@ -48,7 +48,7 @@ abbrev pub scorings_of : List Tracked → List Scoring
 scorings_of es = map scoring_of es
 
 -- Each member is there once, in order, and can have rows.
-pub record IsTable (es : List Tracked) : Type 0 where
+pub record IsScoreTable (es : List Tracked) : Type 0 where
   pub ordered : IsStrictlySortedBy byte_cmp (keys_of es)
   pub stand : AllStand (scorings_of es)
 

@@ -8,7 +8,7 @@ ghost use Rattle.redis_model.specs.Limits.{IsName, IsWholeScore};
 ghost use Rattle.redis_model.specs.Strings.{allowed};
 ghost use Rattle.zset_plans.specs.Scorings.{same_score};
 ghost use Rattle.zset_changes.specs.SeenScores.{TellsScores};
-ghost use Rattle.zset_changes.specs.ScoreTables.{AddsScore, AllStand, IsTable, SetsScores, sets_score, track_in, tracks_in, CanStand};
+ghost use Rattle.zset_changes.specs.ScoreTables.{AddsScore, AllStand, IsScoreTable, SetsScores, sets_score, track_in, tracks_in, CanStand};
 
 use crate::score::score_at;
 use crate::table::{ScoreTable, Track};
@@ -38,8 +38,8 @@ pub(crate) struct Tally {
     pub changed: u64,
 }
 
-/// What ZADD without INCR makes of the scores of members in the life that is found at a key, pair by pair. One row is looked up for each
-/// member, whatever the size of the sorted set.
+/// What ZADD without INCR makes of the scores of members in the life that is found at a key, pair by pair. At most one row is
+/// looked up for each member, whatever the size of the sorted set.
 ///
 /// The fault is one of the view, or want of memory. It leaves the view's rows as they are, as does an answer.
 pub fn add_scores<V: RawView>(
@@ -96,11 +96,11 @@ fn add_score<V: RawView>(
     requires version { HasVersionIn life }
     requires score { IsWholeScore score }
     requires member { IsName member.now }
-    requires table { IsTable (tracks_in tally.old.table) }
+    requires table { IsScoreTable (tracks_in tally.old.table) }
     requires few { tally.old.added + tally.old.changed < 2 ^ 64 - 1 }
     ensures adds { OnOk result (IfSome (V.told view.old).rows
         (λ c. AddsScore when member.now score (track_in c key.now life (tracks_in tally.old.table) member.now) tally.old tally.new)) }
-    ensures table { OnOk result (IsTable (tracks_in tally.new.table)) }
+    ensures table { OnOk result (IsScoreTable (tracks_in tally.new.table)) }
     ensures few { OnOk result (tally.new.added + tally.new.changed ≤ tally.old.added + tally.old.changed + 1) }
     ensures reads { ReadsView (V.told view.old) (V.told view.new) result }
 {
@@ -135,7 +135,7 @@ pub(crate) fn track_in<V: RawView>(
 ) -> Result<Track, StoreFault>
     requires version { HasVersionIn life }
     requires member { IsName member.now }
-    requires table { IsTable (tracks_in table.now) }
+    requires table { IsScoreTable (tracks_in table.now) }
     ensures track { IfOk result (λ track. IfSome (V.told view.old).rows (λ c. track ≡ track_in c key.now life (tracks_in table.now) member.now)) }
     ensures before { IfOk result (λ track. IfSome track.before IsWholeScore) }
     ensures reads { ReadsView (V.told view.old) (V.told view.new) result }

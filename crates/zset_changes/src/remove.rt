@@ -6,7 +6,7 @@ ghost use Rattle.lives_model.specs.Views.{ReadsView};
 ghost use Rattle.plan_base.specs.Lives.{HasVersionIn};
 ghost use Rattle.redis_model.specs.Limits.{IsName};
 ghost use Rattle.zset_changes.specs.SeenScores.{TellsScores};
-ghost use Rattle.zset_changes.specs.ScoreTables.{AllStand, IsTable, Removes, TakesMember, track_in, tracks_in};
+ghost use Rattle.zset_changes.specs.ScoreTables.{AllStand, IsScoreTable, Removes, TakesMember, track_in, tracks_in};
 
 use crate::add::track_in;
 use crate::table::{ScoreTable, Track};
@@ -16,8 +16,8 @@ use plan_base::LifeSight;
 use std::alloc::Global;
 use zset_plans::Scoring;
 
-/// What becomes of the scores of members in the life that is found at a key where these go. One row is looked up for each member, whatever
-/// the size of the sorted set.
+/// What becomes of the scores of members in the life that is found at a key where these go. At most one row is looked up for
+/// each member, whatever the size of the sorted set.
 ///
 /// The fault is one of the view, or want of memory. It leaves the view's rows as they are, as does an answer.
 pub fn remove_members<V: RawView>(
@@ -53,10 +53,10 @@ fn remove_member<V: RawView>(
 ) -> Result<(), StoreFault>
     requires version { HasVersionIn life }
     requires member { IsName member.now }
-    requires table { IsTable (tracks_in table.old) }
+    requires table { IsScoreTable (tracks_in table.old) }
     ensures takes { OnOk result (IfSome (V.told view.old).rows
         (λ c. TakesMember member.now (track_in c key.now life (tracks_in table.old) member.now) (tracks_in table.old) (tracks_in table.new))) }
-    ensures table { OnOk result (IsTable (tracks_in table.new)) }
+    ensures table { OnOk result (IsScoreTable (tracks_in table.new)) }
     ensures reads { ReadsView (V.told view.old) (V.told view.new) result }
 {
     let track = track_in(alloc, view, key, life, table, member)?;

@@ -6,7 +6,7 @@ ghost use Rattle.kv_base.specs.RawKeys.{is_version};
 ghost use Rattle.lives_model.specs.Means.{score_text};
 ghost use Rattle.lives_model.specs.Rows.{Elements, row_key};
 ghost use Rattle.redis_model.specs.Limits.{IsName, IsWholeScore};
-ghost use Rattle.zset_plans.specs.Scorings.{coming, comes, goes, going, same_score, scored_rows, with_rank};
+ghost use Rattle.zset_plans.specs.Scorings.{coming, going, is_coming, is_going, same_score, scored_rows, with_rank};
 ghost use Rattle.zset_changes.specs.ScoreTables.{AllStand, CanStand};
 ghost use Rattle.zset_changes.specs.ScoreRows.{TakesScoring};
 

@@ -3,7 +3,7 @@
 ghost use Rattle.std.specs.Prelude.{◌≡◌, [], IfOk, OnOk, OnErr};
 ghost use Rattle.std.specs.BTreeMap.{insert_entry};
 ghost use Rattle.kv_base.specs.Map.{byte_cmp};
-ghost use Rattle.zset_changes.specs.ScoreTables.{IsTable, CanStand, scoring_of, scorings_of, track_of, tracks_in};
+ghost use Rattle.zset_changes.specs.ScoreTables.{IsScoreTable, CanStand, scoring_of, scorings_of, track_of, tracks_in};
 
 use kv_base::{Blob, NoMem};
 use std::alloc::Global;
@@ -27,7 +27,7 @@ impl ScoreTable {
     /// A table of no members, which takes no memory.
     pub(crate) fn new(alloc: Global) -> ScoreTable
         ensures none { tracks_in result ≡ [] }
-        ensures table { IsTable (tracks_in result) }
+        ensures table { IsScoreTable (tracks_in result) }
     {
         ScoreTable {
             tracks: BTreeMap::new(alloc),
@@ -44,10 +44,10 @@ impl ScoreTable {
     /// Sets the track of a member. On an error the table is as it was.
     #[tactic(auto, using(crate::specs::ScoreTableLaws::table_more))]
     pub(crate) fn set(&mut self, member: Blob, track: Track) -> Result<(), NoMem>
-        requires table { IsTable (tracks_in self.old) }
+        requires table { IsScoreTable (tracks_in self.old) }
         requires stands { CanStand (scoring_of (member, track)) }
         ensures tracks { OnOk result (tracks_in self.new ≡ insert_entry byte_cmp (tracks_in self.old) member track) }
-        ensures table { OnOk result (IsTable (tracks_in self.new)) }
+        ensures table { OnOk result (IsScoreTable (tracks_in self.new)) }
         ensures err { OnErr result (tracks_in self.new ≡ tracks_in self.old) }
     {
         let Ok(_) = self.tracks.insert(member, track) else {

@@ -31,5 +31,5 @@ abbrev pub PlansFound : Rows → Bytes → LifeFound → (Map ℤ → Outcome (R
 PlansFound c k found f plan = (z : Map ℤ) → FindsScores c k found.fresh found.life z → IsScoresPlan found.moment k found.old found.fresh found.life z (f z) plan
 
 -- it raises the score of a member, where that is this one
-abbrev pub Raises : Bytes → LifeFound → When → Bytes → ℤ → Option ℤ → Plan → Type 0
-Raises k found w x s before plan = (z : Map ℤ) → get z x ≡ before → IsScoresPlan found.moment k found.old found.fresh found.life z (score_raised w z (x, s)) plan
+abbrev pub RaisesScore : Bytes → LifeFound → When → Bytes → ℤ → Option ℤ → Plan → Type 0
+RaisesScore k found w x s before plan = (z : Map ℤ) → get z x ≡ before → IsScoresPlan found.moment k found.old found.fresh found.life z (score_raised w z (x, s)) plan

@@ -1,21 +1,14 @@
 -- Laws on what stands in `Planned.antt`.
-use Rattle.std.proofs.Common.{◌≡◌, ℕ, refl, sym, ap, subst, ◌∙◌}
+use Rattle.std.proofs.Common.{◌≡◌, ℕ, sym, subst}
 use Rattle.std.specs.Prelude.{Option, Some, None, Ok, Err, Result, IfSome, ℤ}
 use Rattle.kv_base.specs.Map.{Bytes, Map}
-use Rattle.kv_base.specs.declared.kind.Kind.TheVariants as code
 use Rattle.redis_model.specs.declared.reply.Reply.{Reply}
-use Rattle.redis_model.specs.declared.reply.Reply.TheVariants as reply
-use Rattle.redis_model.specs.declared.reply.ReplyError.{ReplyError}
 use Rattle.redis_model.specs.Outcome.{Outcome}
 use Rattle.lives_model.specs.declared.plan.Plan.{Plan}
 use Rattle.lives_model.specs.Rows.{Rows}
 use Rattle.lives_model.specs.Clean.{live_at}
 use Rattle.plan_base.specs.declared.life.LifeSight.{LifeSight}
-use Rattle.plan_base.specs.declared.key_life.KeyLife.{KeyLife}
-use Rattle.plan_base.specs.KeyLives.{key_life}
 use Rattle.plan_base.specs.Seen.{deadline_in}
-use Rattle.plan_base.specs.Lives.{life_found}
-use Rattle.plan_base.specs.LifePlans.{answering}
 use Rattle.life_changes.specs.declared.plan.LifeFound.{LifeFound}
 use Rattle.zset_plans.specs.ScorePlans.{FindsScores, IsScoresPlan, PlansBy, PlansScores}
 use Rattle.zset_cmds.specs.Planned.{FindsAt, FindsOr, PlansFound}

@@ -2,9 +2,8 @@
 use Rattle.std.proofs.Common.{◌≡◌, ℕ, ◌+◌, ◌-◌, refl, sym, ap, subst, ◌∙◌, Bool, true, false, cond, List, [], ◌∷◌, arith}
 use Rattle.std.proofs.lemmas.Bool.Decides.{nat_tests}
 use Rattle.std.proofs.lemmas.Int.{ints}
-use Rattle.std.specs.Prelude.{Option, Some, None, Ok, Err, Result, IfOk, IfSome, IsTrue, is_some, not, zip, ℤ, pos}
-use Rattle.std.specs.Option.{option_map_or}
-use Rattle.kv_base.specs.Map.{Bytes, Map, get, insert, size}
+use Rattle.std.specs.Prelude.{Option, Some, None, Ok, Err, Result, IfOk, IfSome, is_some, not, zip, ℤ, pos}
+use Rattle.kv_base.specs.Map.{Bytes, Map, insert, size}
 use Rattle.kv_base.specs.MetaValues.{is_score}
 use Rattle.kv_base.specs.declared.memory.NoMem.{NoMem}
 use Rattle.redis_model.specs.declared.command.When.{When}
@@ -20,13 +19,11 @@ use Rattle.lives_model.specs.declared.plan.Plan.{Plan}
 use Rattle.lives_model.specs.Rows.{Rows}
 use Rattle.lives_model.specs.AskedKeyLaws.{name_is_key}
 use Rattle.plan_base.specs.declared.life.LifeSight.{LifeSight}
-use Rattle.plan_base.specs.Lives.{life_size}
 use Rattle.plan_base.specs.LifeLaws.{sorted_set_stands, size_there}
 use Rattle.plan_base.specs.LifePlans.{answering}
-use Rattle.life_plans.specs.ChangePlans.{size_after}
 use Rattle.life_changes.specs.declared.plan.LifeFound.{LifeFound}
 use Rattle.zset_plans.specs.declared.scoring.Scoring.{Scoring}
-use Rattle.zset_plans.specs.Scorings.{all_rescored, AreScorings, coming, going}
+use Rattle.zset_plans.specs.Scorings.{all_rescored, AreScorings}
 use Rattle.zset_plans.specs.ScorePlans.{FindsScores, scoring_plan, ScoresPlanned, IsScoresPlan}
 use Rattle.zset_plans.specs.ScorePlanLaws.{size_is}
 use Rattle.zset_changes.specs.declared.add.ScoresAdded.{ScoresAdded}
@@ -34,7 +31,7 @@ use Rattle.zset_changes.specs.SeenScores.{member_score, TellsScores}
 use Rattle.zset_changes.specs.SeenScoreLaws.{tells_scores}
 use Rattle.zset_changes.specs.ScoreTables.{SetsScores, Removes, rest_of}
 use Rattle.zset_changes.specs.Founds.{gone_number}
-use Rattle.zset_cmds.specs.Planned.{PlansFound, Raises}
+use Rattle.zset_cmds.specs.Planned.{PlansFound, RaisesScore}
 
 abbrev ok : Reply × Map ℤ → Outcome (Reply × Map ℤ)
 ok r = Ok r
@@ -73,22 +70,22 @@ with_incr ss xs how z is =
     sym (ap (λ b. cond b (all_raised how.when z (zip xs ss)) (Ok (number (counted how.changed (all_set how.when z (zip xs ss))), (all_set how.when z (zip xs ss)).scores))) is)
 
 -- where no score is set the sorted set stays
-pub stays_so : (t : ℕ) (k : Bytes) (old : Option ℕ) (fresh : ℕ) (found : Option LifeSight) (z : Map ℤ) (answer : Reply) (plan : Plan) → plan ≡ scoring_plan t k old fresh found [] answer → ScoresPlanned t k old fresh found z (answer, z) plan
-stays_so t k old fresh found z answer plan is = record { scorings = []; are = tt; leave = refl; is = is }
+pub scores_stay : (t : ℕ) (k : Bytes) (old : Option ℕ) (fresh : ℕ) (found : Option LifeSight) (z : Map ℤ) (answer : Reply) (plan : Plan) → plan ≡ scoring_plan t k old fresh found [] answer → ScoresPlanned t k old fresh found z (answer, z) plan
+scores_stay t k old fresh found z answer plan is = record { scorings = []; are = tt; leave = refl; is = is }
 
 -- a score that goes up
 module _ (k : Bytes) (found : LifeFound) (w : When) (x : Bytes) (s : ℤ) (before : Option ℤ) (plan : Plan) where
   abbrev planned : Map ℤ → Outcome (Reply × Map ℤ) → Type 0
   planned z o = IsScoresPlan found.moment k found.old found.fresh found.life z o plan
 
-  pub raises_not : allowed w (is_some before) ≡ false → plan ≡ scoring_plan found.moment k found.old found.fresh found.life [] reply.Null → Raises k found w x s before plan
+  pub raises_not : allowed w (is_some before) ≡ false → plan ≡ scoring_plan found.moment k found.old found.fresh found.life [] reply.Null → RaisesScore k found w x s before plan
   raises_not barred is z there =
       subst (planned z)
       (sym (ap (λ (o : Option ℤ). cond (not (allowed w (is_some o))) (Ok (reply.Null, z)) (cond (is_score (score_after o s)) (Ok (score_bulk (score_after o s), insert z x (score_after o s))) (Err ScoreRange))) there
       ∙ ap (λ b. cond (not b) (Ok (reply.Null, z)) (cond (is_score (score_after before s)) (Ok (score_bulk (score_after before s), insert z x (score_after before s))) (Err ScoreRange))) barred))
-      (stays_so found.moment k found.old found.fresh found.life z reply.Null plan is)
+      (scores_stay found.moment k found.old found.fresh found.life z reply.Null plan is)
 
-  pub raises_too_far : allowed w (is_some before) ≡ true → is_score (score_after before s) ≡ false → plan ≡ answering found.moment found.old (reply.Error ScoreRange) → Raises k found w x s before plan
+  pub raises_too_far : allowed w (is_some before) ≡ true → is_score (score_after before s) ≡ false → plan ≡ answering found.moment found.old (reply.Error ScoreRange) → RaisesScore k found w x s before plan
   raises_too_far may far is z there =
       subst (planned z)
       (sym (ap (λ (o : Option ℤ). cond (not (allowed w (is_some o))) (Ok (reply.Null, z)) (cond (is_score (score_after o s)) (Ok (score_bulk (score_after o s), insert z x (score_after o s))) (Err ScoreRange))) there
@@ -96,7 +93,7 @@ module _ (k : Bytes) (found : LifeFound) (w : When) (x : Bytes) (s : ℤ) (befor
       is
 
   pub raises : allowed w (is_some before) ≡ true → is_score (score_after before s) ≡ true → IsWholeScore (score_after before s) → IsName x
-      → plan ≡ scoring_plan found.moment k found.old found.fresh found.life (record { member = x; before = before; after = Some (score_after before s) } ∷ []) (score_bulk (score_after before s)) → Raises k found w x s before plan
+      → plan ≡ scoring_plan found.moment k found.old found.fresh found.life (record { member = x; before = before; after = Some (score_after before s) } ∷ []) (score_bulk (score_after before s)) → RaisesScore k found w x s before plan
   raises may near whole name is z there =
       subst (planned z)
       (sym (ap (λ (o : Option ℤ). cond (not (allowed w (is_some o))) (Ok (reply.Null, z)) (cond (is_score (score_after o s)) (Ok (score_bulk (score_after o s), insert z x (score_after o s))) (Err ScoreRange))) there
@@ -112,7 +109,7 @@ module _ (k : Bytes) (found : LifeFound) (w : When) (x : Bytes) (s : ℤ) (befor
 pub raises_then : (k : Bytes) (found : LifeFound) (w : When) (x : Bytes) (s : ℤ) (before : Option ℤ) (after : ℤ) (ss : List Scoring) (answer : Reply) (r : Result Plan NoMem)
     → allowed w (is_some before) ≡ true → after ≡ score_after before s → is_score after ≡ true → IsName x
     → ss ≡ record { member = x; before = before; after = Some after } ∷ [] → answer ≡ score_bulk after
-    → IfOk r (λ plan. plan ≡ scoring_plan found.moment k found.old found.fresh found.life ss answer) → IfOk r (λ plan. Raises k found w x s before plan)
+    → IfOk r (λ plan. plan ≡ scoring_plan found.moment k found.old found.fresh found.life ss answer) → IfOk r (λ plan. RaisesScore k found w x s before plan)
 raises_then k found w x s before after ss answer (Err e) may up near name are told is = tt
 raises_then k found w x s before after ss answer (Ok plan) may up near name are told is =
     let here : is_score (score_after before s) ≡ true = ap is_score (sym up) ∙ near in
@@ -124,14 +121,14 @@ raises_then k found w x s before after ss answer (Ok plan) may up near name are 
 
 -- by the score in the life that is found
 pub raises_found : (rows now : Option Rows) (k : Bytes) (found : LifeFound) (w : When) (x : Bytes) (s : ℤ) (before : Option ℤ) (plan : Plan) → now ≡ rows
-    → IfSome rows (λ c. before ≡ member_score c k found.life x) → Raises k found w x s before plan → IfSome rows (λ c. PlansFound c k found (λ z. score_raised w z (x, s)) plan)
+    → IfSome rows (λ c. before ≡ member_score c k found.life x) → RaisesScore k found w x s before plan → IfSome rows (λ c. PlansFound c k found (λ z. score_raised w z (x, s)) plan)
 raises_found None now k found w x s before plan same is up = tt
 raises_found (Some c) now k found w x s before plan same is up = λ z there. up z (sym (is ∙ (tells_scores c k found.fresh found.life z there).told x))
 
 -- ---- ZREM
 
 -- how many members go
-gone_is : (c : Rows) (k : Bytes) (fresh : ℕ) (found : Option LifeSight) (z rest : Map ℤ) (ss : List Scoring) → FindsScores c k fresh found z → AreScorings z ss → all_rescored z ss ≡ rest → gone_number found ss ≡ number (size z - size rest)
+pub gone_is : (c : Rows) (k : Bytes) (fresh : ℕ) (found : Option LifeSight) (z rest : Map ℤ) (ss : List Scoring) → FindsScores c k fresh found z → AreScorings z ss → all_rescored z ss ≡ rest → gone_number found ss ≡ number (size z - size rest)
 gone_is c k fresh found z rest ss finds are leave =
     (λ i. number (size_there sorted_set_stands c k found z finds.life i - (sym (size_is c k fresh found z ss finds are) ∙ ap size leave) i))
 

@@ -8,7 +8,7 @@ ghost use Rattle.redis_model.specs.SortedSets.{all_raised, all_set, counted, rai
 ghost use Rattle.lives_model.specs.Views.{ReadsView};
 ghost use Rattle.zset_plans.specs.ScorePlans.{PlansScores};
 ghost use Rattle.zset_changes.specs.Founds.{IsScoresFound};
-ghost use Rattle.zset_cmds.specs.Planned.{PlansFound, Raises};
+ghost use Rattle.zset_cmds.specs.Planned.{PlansFound, RaisesScore};
 
 use crate::found::find_scores;
 use kv_base::{Blob, Key, NoMem, StoreFault};
@@ -21,7 +21,7 @@ use zset_changes::{ScoresAdded, add_scores, allowed, is_score, score_at, scoring
 use zset_plans::Scoring;
 use zset_reads::score_bulk;
 
-/// ZADD. One row is looked up for each member, whatever the size of the sorted set.
+/// ZADD. At most one row is looked up for each member, whatever the size of the sorted set.
 ///
 /// The fault is one of the view, or want of memory. It leaves the view's rows as they are, as does an answer.
 pub(crate) fn z_add<V: RawView>(
@@ -126,7 +126,7 @@ fn raise_first<V: RawView>(
     Ok(plan)
 }
 
-/// ZINCRBY. One row is looked up, whatever the size of the sorted set.
+/// ZINCRBY. At most one row is looked up beside the metadata, whatever the size of the sorted set.
 ///
 /// The fault is one of the view, or want of memory. It leaves the view's rows as they are, as does an answer.
 pub(crate) fn z_incr_by<V: RawView>(
@@ -191,7 +191,7 @@ fn raised(
     requires before { IfSome before IsWholeScore }
     requires score { IsWholeScore score }
     requires member { IsName member.now }
-    ensures { IfOk result (λ plan. Raises key.now found when member.now score before plan) }
+    ensures { IfOk result (λ plan. RaisesScore key.now found when member.now score before plan) }
 {
     let mut scorings = Vec::new(alloc);
     if !allowed(when, before.is_some()) {

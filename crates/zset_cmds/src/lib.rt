@@ -10,5 +10,6 @@ mod add;
 mod found;
 mod plan;
 mod remove;
+mod take;
 
 pub use plan::plan_zset;

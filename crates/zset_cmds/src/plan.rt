@@ -9,6 +9,7 @@ ghost use Rattle.lives_model.specs.Views.{ReadsView};
 
 use crate::add::{z_add, z_incr_by};
 use crate::remove::z_rem;
+use crate::take::{Taking, how_many, z_take};
 use kv_base::StoreFault;
 use lives_model::{Plan, RawView};
 use redis_model::Command;
@@ -17,11 +18,10 @@ use zset_reads::plan_sorted_set_read;
 
 /// The plan of a command on sorted sets, at a moment in milliseconds. A life that it starts has this version.
 ///
-/// The metadata of the key is read once, and one row is looked up for each member that the command names, whatever the size of
-/// the sorted set. Members are found by rank or by score in pages (`zset_reads`).
+/// The metadata of the key is read once, and one row at most is looked up for each member that the command names, whatever the
+/// size of the sorted set. Members that go by rank or by score are found in pages, as those that are read (`zset_reads`).
 ///
-/// The fault is one of the view, or want of memory. It leaves the view's rows as they are, as does an answer. ZPOPMIN, ZPOPMAX,
-/// ZREMRANGEBYRANK and ZREMRANGEBYSCORE have no planner yet: they are answered with want of memory, and no session asks them.
+/// The fault is one of the view, or want of memory. It leaves the view's rows as they are, as does an answer.
 pub fn plan_zset<V: RawView>(
     alloc: Global,
     view: &mut V,
@@ -52,10 +52,22 @@ pub fn plan_zset<V: RawView>(
         Command::ZRem(key, members, _) => {
             z_rem(alloc, view, moment, version, key, members.as_slice())
         }
-        Command::ZRemRangeByRank(_, _, _, _)
-        | Command::ZRemRangeByScore(_, _, _, _)
-        | Command::ZPopMin(_, _, _)
-        | Command::ZPopMax(_, _, _) => Err(StoreFault::NoMem),
+        Command::ZRemRangeByRank(key, first, last, _) => {
+            let taking = Taking::Places(*first, *last);
+            z_take(alloc, view, moment, version, key, taking)
+        }
+        Command::ZRemRangeByScore(key, low, high, _) => {
+            let taking = Taking::Within(*low, *high);
+            z_take(alloc, view, moment, version, key, taking)
+        }
+        Command::ZPopMin(key, count, _) => {
+            let taking = Taking::Lowest(how_many(*count));
+            z_take(alloc, view, moment, version, key, taking)
+        }
+        Command::ZPopMax(key, count, _) => {
+            let taking = Taking::Highest(how_many(*count));
+            z_take(alloc, view, moment, version, key, taking)
+        }
         _ => plan_read(alloc, view, moment, version, command),
     }
 }

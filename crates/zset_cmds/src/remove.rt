@@ -16,7 +16,7 @@ use lives_model::{Plan, RawView};
 use std::alloc::Global;
 use zset_changes::{remove_members, removing_plan};
 
-/// ZREM. One row is looked up for each member, whatever the size of the sorted set.
+/// ZREM. At most one row is looked up for each member, whatever the size of the sorted set.
 ///
 /// The fault is one of the view, or want of memory. It leaves the view's rows as they are, as does an answer.
 pub(crate) fn z_rem<V: RawView>(

@@ -47,10 +47,10 @@ use Rattle.plan_base.specs.LifeStepLaws.{life_plan, goes_on}
 use Rattle.life_plans.specs.ChangePlans.{changing_plan, emptied_plan, size_after, life_text}
 use Rattle.life_plans.specs.Changes.{FindsLife}
 use Rattle.life_plans.specs.ChangeSizeLaws.{IsHeldLife, held, held_version}
-use Rattle.life_plans.specs.ChangePlanLaws.{Plans, insert_there, quiet_plan, faulty_plan, lives_there, size_fits}
+use Rattle.life_plans.specs.ChangePlanLaws.{Plans, insert_there, idle_plan_ahead, faulty_plan, lives_there, size_fits}
 use Rattle.zset_plans.specs.declared.scoring.Scoring.{Scoring}
 use Rattle.zset_plans.specs.Scorings.{all_rescored, AreScorings, coming, going, scored_rows}
-use Rattle.zset_plans.specs.ScoringLaws.{all_left, size_rescored}
+use Rattle.zset_plans.specs.ScoringLaws.{all_unscored, size_rescored}
 use Rattle.zset_plans.specs.ScoreRowLaws.{Turns, IsRowOfLife, scorings_turn, whole_from, no_turn, turns_itself}
 use Rattle.zset_plans.specs.ScorePlans.{FindsScores, scoring_plan, ScoresPlanned, IsScoresPlan, ChangesScores, PlansBy, PlansScores}
 
@@ -183,7 +183,7 @@ module _ {c : Rows} {t : ℕ} {m : RedisMap} (means : Means c t m) (fresh : ℕ)
 
   -- a sorted set without members leaves no key
   emptied : (f : Option LifeSight) → IsHeldLife sorted_sets c t m k f z → carried_out m t d ≡ Ok (answer, remove m k) → Plans c t fresh m d (emptied_plan t k (deadline_in (live_at c t k)) f answer)
-  emptied None h comes = quiet_plan fresh d k answer means (comes ∙ ap (λ (n : RedisMap). Ok (answer, n)) (remove_nothing m k h.0)) one (rewrites m)
+  emptied None h comes = idle_plan_ahead fresh d k answer means (comes ∙ ap (λ (n : RedisMap). Ok (answer, n)) (remove_nothing m k h.0)) one (rewrites m)
   emptied (Some life) h comes = removed_plan fresh d k (meta_for h.entry.value h.stands.life h.stands.expire) answer means h.stands.meta comes one short
 
   -- where nothing differs the entry stays
@@ -243,7 +243,7 @@ module _ {c : Rows} {t : ℕ} {m : RedisMap} (means : Means c t m) (fresh : ℕ)
   by_tests false false true l e s =
       let alike = no_turn turns (rows_none rows (number_is (size rows) 0 s)) finds.rows.scores whole in
       let stays = same_entry_there found (held sorted_set_stands means k found z is at) e (same_map z next alike) in
-      quiet_plan fresh d k answer means (comes_to false false l e ∙ ap (λ (n : RedisMap). Ok (answer, n)) stays) one (rewrites m)
+      idle_plan_ahead fresh d k answer means (comes_to false false l e ∙ ap (λ (n : RedisMap). Ok (answer, n)) stays) one (rewrites m)
   by_tests false false false l e s =
       life_plan fresh d k (insert rows (meta_key k) (Some (life_text code.ZSet old (life_on fresh found).version (size next)))) answer (insert m k entry) entry (life_on fresh found) (expire_number old)
       means (comes_to false false l e) one short (touches_it s) left (lives_there means k) (goes_on sorted_set_stands fresh d k found next means keeps is) (writes l e)
@@ -259,7 +259,7 @@ module _ {c : Rows} {t : ℕ} {m : RedisMap} (means : Means c t m) (fresh : ℕ)
 pub size_is : (c : Rows) (k : Bytes) (fresh : ℕ) (found : Option LifeSight) (z : Map ℤ) (ss : List Scoring) → FindsScores c k fresh found z → AreScorings z ss → size (all_rescored z ss) ≡ size_after found (coming ss) (going ss)
 size_is c k fresh found z ss finds all =
     let size_there = size_there sorted_set_stands c k found z finds.life in
-    let counts = size_rescored z z ss all (all_left z ss) in
+    let counts = size_rescored z z ss all (all_unscored z ss) in
     omega (arith, size_there, counts)
 
 -- A command on a key of another type answers the error.

@@ -25,7 +25,7 @@ use Rattle.lives_model.specs.Plans.{same_row, changed}
 use Rattle.lives_model.specs.StepLaws.{changed_itself, number_itself}
 use Rattle.zset_plans.specs.declared.scoring.Scoring.{Scoring}
 use Rattle.zset_plans.specs.Scorings.{scored_as, rescored, all_rescored, IsScoring, AreScorings, same_score, with_rank, with_scoring, scored_rows}
-use Rattle.zset_plans.specs.ScoringLaws.{same_score_is, same_score_itself, get-scored, whole_after, AreLeft, all_left, left_by_one}
+use Rattle.zset_plans.specs.ScoringLaws.{same_score_is, same_score_itself, get-scored, whole_after, AreUnscored, all_unscored, left_by_one}
 
 -- ---- what a batch does
 
@@ -290,7 +290,7 @@ module _ (k : Bytes) (version : ℕ) (short : IsTrue (is_key k)) (low : IsTrue (
       by_test true e = turns_alike z now b s.member s.before s.after scoring.key old scoring.whole scoring.before left turns e
       by_test false e = turns_more z now b s.member s.before s.after scoring.key old scoring.whole scoring.before left turns e
 
-  turns_from : (z now : Map ℤ) (b : Batch) (ss : List Scoring) → HasWholeScores (ZSet z) → AreScorings z ss → AreLeft z now ss → Turns k version z now b → Turns k version z (all_rescored now ss) (fold (with_scoring k version) b ss)
+  turns_from : (z now : Map ℤ) (b : Batch) (ss : List Scoring) → HasWholeScores (ZSet z) → AreScorings z ss → AreUnscored z now ss → Turns k version z now b → Turns k version z (all_rescored now ss) (fold (with_scoring k version) b ss)
   turns_from z now b [] whole all left turns = turns
   turns_from z now b (s ∷ ss) whole all left turns =
       turns_from z (rescored now s) (with_scoring k version b s) ss whole all.2 (left_by_one z now s.member s.after ss all.1 left.1) (turns_one z now b s whole all.0 left.0 turns)
@@ -305,7 +305,7 @@ module _ (k : Bytes) (version : ℕ) (short : IsTrue (is_key k)) (low : IsTrue (
   -- The rows of scorings are those that differ.
   pub scorings_turn : (z : Map ℤ) (ss : List Scoring) → HasWholeScores (ZSet z) → AreScorings z ss → Turns k version z (all_rescored z ss) (scored_rows k version ss)
   unfolding scored_rows
-  scorings_turn z ss whole all = turns_from z z empty ss whole all (all_left z ss) (turns_nothing z)
+  scorings_turn z ss whole all = turns_from z z empty ss whole all (all_unscored z ss) (turns_nothing z)
 
 -- scores stay whole numbers
 pub whole_from : (z now : Map ℤ) (ss : List Scoring) → HasWholeScores (ZSet now) → AreScorings z ss → HasWholeScores (ZSet (all_rescored now ss))

@@ -12,7 +12,7 @@ use Rattle.redis_model.specs.Keys.{among}
 use Rattle.lives_model.specs.Means.{HasWholeScores}
 use Rattle.lives_model.specs.OwnKeyLaws.{no_size}
 use Rattle.zset_plans.specs.declared.scoring.Scoring.{Scoring}
-use Rattle.zset_plans.specs.Scorings.{scored_as, rescored, all_rescored, IsScoring, members_in, AreScorings, comes, goes, coming, going, same_score}
+use Rattle.zset_plans.specs.Scorings.{scored_as, rescored, all_rescored, IsScoring, scored_members, AreScorings, is_coming, is_going, coming, going, same_score}
 
 -- ---- scores
 
@@ -44,13 +44,13 @@ whole_after z x o whole is q = subst (λ (s : Option ℤ). IfSome s IsWholeScore
 -- ---- members that are not scored yet
 
 -- each of these members has the score that it had
-abbrev pub AreLeft : Map ℤ → Map ℤ → List Scoring → Type 0
-AreLeft z now [] = Unit {0}
-AreLeft z now (s ∷ ss) = (get now s.member ≡ get z s.member) × AreLeft z now ss
+abbrev pub AreUnscored : Map ℤ → Map ℤ → List Scoring → Type 0
+AreUnscored z now [] = Unit {0}
+AreUnscored z now (s ∷ ss) = (get now s.member ≡ get z s.member) × AreUnscored z now ss
 
-pub all_left : (z : Map ℤ) (ss : List Scoring) → AreLeft z z ss
-all_left z [] = tt
-all_left z (s ∷ ss) = (refl, all_left z ss)
+pub all_unscored : (z : Map ℤ) (ss : List Scoring) → AreUnscored z z ss
+all_unscored z [] = tt
+all_unscored z (s ∷ ss) = (refl, all_unscored z ss)
 
 -- the first of some members is not this one, nor are the others
 not_among : (x y : Bytes) (ys : List Bytes) → among (y ∷ ys) x ≡ false → (same y x ≡ false) × (among ys x ≡ false)
@@ -68,10 +68,10 @@ not_among x y ys h = by_tests (same x y) (among ys x) refl refl h
     by_tests false true ea eb neither = absurd (cc)
 
 -- one member that is scored leaves the others
-pub left_by_one : (z now : Map ℤ) (x : Bytes) (o : Option ℤ) (ss : List Scoring) → among (members_in ss) x ≡ false → AreLeft z now ss → AreLeft z (scored_as now x o) ss
+pub left_by_one : (z now : Map ℤ) (x : Bytes) (o : Option ℤ) (ss : List Scoring) → among (scored_members ss) x ≡ false → AreUnscored z now ss → AreUnscored z (scored_as now x o) ss
 left_by_one z now x o [] apart left = tt
 left_by_one z now x o (s ∷ ss) apart left =
-    let tests = not_among x s.member (members_in ss) apart in
+    let tests = not_among x s.member (scored_members ss) apart in
     (get-scored now x o s.member ∙ ap (λ b. cond b o (get now s.member)) tests.0 ∙ left.0, left_by_one z now x o ss tests.1 left.1)
 
 -- ---- how many members there are afterwards
@@ -106,11 +106,11 @@ count-cons : (p : Scoring → Bool) (s : Scoring) (ss : List Scoring) → count_
 count-cons p s ss = sum_by-cons (λ x. cond (p x) 1 0) s ss
 
 -- the members that were there and those that come are those that are there and those that go
-pub size_rescored : (z now : Map ℤ) (ss : List Scoring) → AreScorings z ss → AreLeft z now ss → size (all_rescored now ss) + going ss ≡ size now + coming ss
+pub size_rescored : (z now : Map ℤ) (ss : List Scoring) → AreScorings z ss → AreUnscored z now ss → size (all_rescored now ss) + going ss ≡ size now + coming ss
 size_rescored z now [] all left = refl
 size_rescored z now (s ∷ ss) all left =
     let here = one_score now s.member s.before s.after (left.0 ∙ sym all.0.before) in
     let rest = size_rescored z (rescored now s) ss all.2 (left_by_one z now s.member s.after ss all.1 left.1) in
-    let come = count-cons comes s ss in
-    let go = count-cons goes s ss in
+    let come = count-cons is_coming s ss in
+    let go = count-cons is_going s ss in
     omega (arith, here, rest, come, go)

@@ -31,28 +31,28 @@ pub record IsScoring (z : Map ℤ) (s : Scoring) : Type 0 where
   pub whole : IfSome s.after IsWholeScore
 
 -- members in scorings
-abbrev pub members_in : List Scoring → List Bytes
-members_in ss = map (λ s. s.member) ss
+abbrev pub scored_members : List Scoring → List Bytes
+scored_members ss = map (λ s. s.member) ss
 
 -- so may all of these, and no two of them are of one member
 abbrev pub AreScorings : Map ℤ → List Scoring → Type 0
 AreScorings z [] = Unit {0}
-AreScorings z (s ∷ ss) = IsScoring z s × IsFalse (among (members_in ss) s.member) × AreScorings z ss
+AreScorings z (s ∷ ss) = IsScoring z s × IsFalse (among (scored_members ss) s.member) × AreScorings z ss
 
 -- ---- how many
 
 -- a member that comes, and one that goes
-abbrev pub comes : Scoring → Bool
-comes s = is_some s.after && not (is_some s.before)
+abbrev pub is_coming : Scoring → Bool
+is_coming s = is_some s.after && not (is_some s.before)
 
-abbrev pub goes : Scoring → Bool
-goes s = not (is_some s.after) && is_some s.before
+abbrev pub is_going : Scoring → Bool
+is_going s = not (is_some s.after) && is_some s.before
 
 abbrev pub coming : List Scoring → ℕ
-coming ss = count_by comes ss
+coming ss = count_by is_coming ss
 
 abbrev pub going : List Scoring → ℕ
-going ss = count_by goes ss
+going ss = count_by is_going ss
 
 -- ---- the rows
 

@@ -4,7 +4,7 @@ use Rattle.kv_base.specs.Map.{Map}
 use Rattle.redis_model.specs.SortedSets.{all_set}
 use Rattle.lives_model.specs.Views.{ReadsOnly}
 use Rattle.zset_changes.specs.SeenScores.{TellsScores}
-use Rattle.zset_changes.specs.ScoreTables.{IsTable, TalliesTo, tracks_in}
+use Rattle.zset_changes.specs.ScoreTables.{IsScoreTable, TalliesTo, tracks_in}
 use Rattle.zset_changes.specs.ScoreTableLaws.{pairs_to}
 use Rattle.zset_changes.proofs.add.add_scores.Given as goal
 
@@ -12,7 +12,7 @@ use Rattle.zset_changes.proofs.add.add_scores.Given as goal
 abbrev pub invariant-loop-at : goal.invariant-loop-at
 invariant-loop-at g l = record {
   tallied : IfSome (g.V.RawView.told l.fn.view).rows (λ c. (z : Map ℤ) → TellsScores c l.key l.life z → TalliesTo (all_set l.when z (pairs_to l.scores l.members l.at)) z l.tally);
-  table : IsTable (tracks_in l.tally.table);
+  table : IsScoreTable (tracks_in l.tally.table);
   few : l.tally.added + l.tally.changed ≤ l.at;
   reads : ReadsOnly (g.V.RawView.told l.fn.view) (g.V.RawView.told l.view) None;
 }

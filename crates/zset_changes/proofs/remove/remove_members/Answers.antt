@@ -1,11 +1,11 @@
 use Rattle.std.specs.Prelude.{None}
 use Rattle.lives_model.specs.ViewLaws.{reads_then, reads_nothing}
-use Rattle.zset_changes.specs.ScoreTableLaws.{none_taken, removed_next, all_removed}
+use Rattle.zset_changes.specs.ScoreTableLaws.{no_member_removed, removed_next, all_removed}
 use Rattle.zset_changes.proofs.remove.remove_members.Goals as goal
 
 pub loop-member-init : goal.loop-member-init
 loop-member-init g c = record {
-  leads = none_taken (g.V.RawView.told c.args.view.now).rows c.args.key.now c.args.life _ c.new-table.ensures.none;
+  leads = no_member_removed (g.V.RawView.told c.args.view.now).rows c.args.key.now c.args.life _ c.new-table.ensures.none;
   table = c.new-table.ensures.table;
   reads = reads_nothing (g.V.RawView.told c.args.view.now);
 }

@@ -1,4 +1,3 @@
-use Rattle.std.proofs.Common.{sym, ap}
 use Rattle.zset_cmds.specs.PlannedLaws.{plans_then, refused_then}
 use Rattle.zset_cmds.specs.ScoreLaws.{without_incr, with_incr}
 use Rattle.zset_cmds.proofs.add.z_add.Goals as goal
