@@ -5,12 +5,12 @@ ghost use Rattle.kv_base.specs.Map.{kept};
 ghost use Rattle.edit_codec.specs.Records.{behind_mark, read_edit, read_edit_parts, read_state_head, read_head_parts};
 ghost use Rattle.edit_codec.specs.States.{are_numbers as are_numbers_of, is_edit as is_edit_of, is_state_head, last_epoch};
 
-use crate::bounds::{are_all_tables, are_below, are_numbers};
+use crate::bounds::are_numbers;
 use crate::encode::{EDIT, HEAD};
 use crate::front::{take_home_list, take_id_list, take_numbers};
 use crate::state::State;
 use kv_base::{NoMem, take_u64};
-use level_set::{Edit, Home, Homes, Levels, TableNames};
+use level_set::{Edit, Home, Homes, Levels, TableNames, are_all_tables, are_below};
 use std::alloc::Global;
 
 /// The greatest epoch.
@@ -107,7 +107,7 @@ pub fn decode_head(alloc: Global, body: &[u8]) -> Result<Option<State>, NoMem>
     let Some(parts) = head_parts(alloc, rest)? else {
         return Ok(None);
     };
-    Ok(state_of(parts))
+    state_of(alloc, parts)
 }
 
 /// What a head's bytes behind its first say, whatever the limits.
@@ -147,22 +147,24 @@ fn are_within(parts: &HeadParts) -> bool
 }
 
 /// The state, where it is within its limits.
-fn state_of(parts: HeadParts) -> Option<State>
-    ensures { result ≡ kept is_state_head (Some (record { epoch = parts.epoch; log = parts.log; last = parts.last; floor = parts.floor; next_run = parts.next_run; levels = parts.homes.items })) }
+fn state_of(alloc: Global, parts: HeadParts) -> Result<Option<State>, NoMem>
+    ensures { IfOk result (λ found. found ≡ kept is_state_head (Some (record { epoch = parts.epoch; log = parts.log; last = parts.last; floor = parts.floor; next_run = parts.next_run; levels = parts.homes.items }))) }
 {
     if !are_within(&parts) {
-        return None;
+        return Ok(None);
     }
-    let levels = Levels::from_homes(parts.homes)?;
+    let Some(levels) = Levels::from_homes(alloc, parts.homes)? else {
+        return Ok(None);
+    };
     if !are_below(parts.next_run, levels.homes()) {
-        return None;
+        return Ok(None);
     }
-    Some(State {
+    Ok(Some(State {
         epoch: parts.epoch,
         log: parts.log,
         last: parts.last,
         floor: parts.floor,
         next_run: parts.next_run,
         levels,
-    })
+    }))
 }

@@ -4,6 +4,8 @@ use level_set::{Choice, Edit, Home, Homes, Levels, TableNames};
 use std::alloc::Global;
 use std::test::Fail;
 
+mod many;
+
 /// A table whose raw keys are the metadata of one letter to another.
 fn home(alloc: Global, level: u8, run: u64, bytes: u64, from: u8, to: u8) -> Result<Home, Fail> {
     Ok(Home {

@@ -8,6 +8,9 @@ use record_body::RecordBody;
 use std::alloc::Global;
 use std::test::Fail;
 
+mod cuts;
+mod faults;
+
 /// The body of an edit that adds a table of this run at level 0.
 fn flushed(alloc: Global, log: u64, run: u64) -> Result<RecordBody, Fail> {
     let mut added = Homes::new(alloc);

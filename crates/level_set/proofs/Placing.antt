@@ -1,8 +1,7 @@
 -- A table that comes in among others, and tables that go.
-use Rattle.std.proofs.Common.{◌≡◌, ℕ, ◌+◌, ◌≤◌, Bool, true, false, cond, List, [], ◌∷◌, ◌++◌, length, take, drop, Option, Some, None, option_map, option_and_then, refl, sym, ◌∙◌, ap, append_assoc, take-append-drop}
+use Rattle.std.proofs.Common.{◌≡◌, ℕ, Bool, true, false, cond, List, [], ◌∷◌, ◌++◌, length, take, drop, Option, Some, None, option_map, option_and_then, refl, sym, ◌∙◌, ap, append_assoc, take-append-drop}
 use Rattle.std.specs.Prelude.{◌&&◌, ◌==◌}
 use Rattle.std.specs.List.{list_all}
-use Rattle.std.proofs.lemmas.List.{drop_all}
 use Rattle.kv_base.specs.Map.{kept}
 use Rattle.kv_base.specs.declared.name.TableId.{TableId}
 use Rattle.level_set.specs.declared.home.Home.{Home}
@@ -13,30 +12,6 @@ use Rattle.level_set.specs.EditLaws.{tables_middle, tables_front, tables_push}
 -- ---- its place
 
 module _ (home : Home) (tables : List Home) (i : ℕ) where
-  pub puts_on : (x : Home) → drop i tables ≡ x ∷ drop (i + 1) tables → take (i + 1) tables ≡ take i tables ++ x ∷ [] → goes_before x home ≡ true
-      → put_in home tables ≡ take i tables ++ put_in home (drop i tables) → put_in home tables ≡ take (i + 1) tables ++ put_in home (drop (i + 1) tables)
-  unfolding put_in
-  puts_on x here front goes was =
-      was ∙ ap (λ (l : List Home). take i tables ++ put_in home l) here
-      ∙ ap (λ b. take i tables ++ cond b (x ∷ put_in home (drop (i + 1) tables)) (home ∷ x ∷ drop (i + 1) tables)) goes
-      ∙ sym (append_assoc (take i tables) (x ∷ []) (put_in home (drop (i + 1) tables)))
-      ∙ ap (λ (l : List Home). l ++ put_in home (drop (i + 1) tables)) (sym front)
-
-  pub puts_here : (x : Home) → drop i tables ≡ x ∷ drop (i + 1) tables → goes_before x home ≡ false
-      → put_in home tables ≡ take i tables ++ put_in home (drop i tables) → put_in home tables ≡ take i tables ++ home ∷ drop i tables
-  unfolding put_in
-  puts_here x here goes was =
-      was ∙ ap (λ (l : List Home). take i tables ++ put_in home l) here
-      ∙ ap (λ b. take i tables ++ cond b (x ∷ put_in home (drop (i + 1) tables)) (home ∷ x ∷ drop (i + 1) tables)) goes
-      ∙ ap (λ (l : List Home). take i tables ++ home ∷ l) (sym here)
-
-  pub puts_last : (n : ℕ) → i ≡ n → length tables ≤ i → put_in home tables ≡ take i tables ++ put_in home (drop i tables) → put_in home tables ≡ take n tables ++ home ∷ drop n tables
-  unfolding put_in
-  puts_last n same long was =
-      let none = drop_all i tables long in
-      was ∙ ap (λ (l : List Home). take i tables ++ put_in home l) none ∙ ap (λ (l : List Home). take i tables ++ home ∷ l) (sym none)
-      ∙ ap (λ (k : ℕ). take k tables ++ home ∷ drop k tables) same
-
   pub may_stand : are_tables tables ≡ true → list_all (λ t. goes_before t home) (take i tables) ≡ true → put_in home tables ≡ take i tables ++ home ∷ drop i tables
       → are_tables (put_in home tables) ≡ (is_table home && list_all (goes_before home) (drop i tables))
   may_stand are front put = ap are_tables put ∙ tables_middle (take i tables) home (drop i tables) (ap are_tables (take-append-drop i tables) ∙ are) front

@@ -22,7 +22,7 @@ use Rattle.level_set.specs.EditLaws.{both_true}
 
 -- ---- the order of bytes
 
-is_less : (o : Ordering) → is_lt o ≡ true → o ≡ Less
+pub is_less : (o : Ordering) → is_lt o ≡ true → o ≡ Less
 is_less Less is = refl
 is_less Equal is = absurd (cc)
 is_less Greater is = absurd (cc)
@@ -128,7 +128,7 @@ pub record IsApart (t u : Home) : Type 0 where
   pub first : is_range t ≡ true
   pub second : is_range u ≡ true
 
-all_at : (p : Home → Bool) (xs : List Home) (i : ℕ) (d : Home) → list_all p xs ≡ true → i < length xs → p (get_or xs i d) ≡ true
+pub all_at : (p : Home → Bool) (xs : List Home) (i : ℕ) (d : Home) → list_all p xs ≡ true → i < length xs → p (get_or xs i d) ≡ true
 all_at p [] i d all low = let never : ⊥ = omega arith in absurd never
 all_at p (x ∷ xs) zero d all low = both_first (p x) (list_all p xs) all
 all_at p (x ∷ xs) (suc i) d all low = all_at p xs i d (both_second (p x) (list_all p xs) all) (omega arith)

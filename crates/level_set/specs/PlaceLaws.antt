@@ -2,9 +2,7 @@
 use Rattle.std.proofs.Common.{◌≡◌, ℕ, Bool, true, false, cond, not, List, [], ◌∷◌, ◌++◌, Some, None, refl, sym, ◌∙◌, ap, subst, arith}
 use Rattle.std.specs.Prelude.{◌&&◌, ◌==◌, nat_lt, nat_le}
 use Rattle.std.specs.List.{list_all}
-use Rattle.std.specs.Ordering.{is_lt}
-use Rattle.std.specs.declared.cmp.Ordering.{Ordering}
-use Rattle.std.specs.declared.cmp.Ordering.TheVariants.{Less, Equal, Greater}
+use Rattle.std.specs.declared.cmp.Ordering.TheVariants.{Less}
 use Rattle.std.specs.Cmp.Lexicographic.{nat_list_cmp_total}
 use Rattle.std.specs.Cmp.{tied_itself}
 use Rattle.std.proofs.lemmas.Bool.Decides.{nat_tests}
@@ -15,16 +13,11 @@ use Rattle.level_set.specs.declared.home.Home.{Home}
 use Rattle.level_set.specs.Tables.{same_id, is_table, is_in_front, stands_before, goes_before, in_order, are_tables}
 use Rattle.level_set.specs.Edits.{put_in, with_table, IsPut, IsWithTable}
 use Rattle.level_set.specs.Choices.{is_range, is_less_than}
-use Rattle.level_set.specs.ChoiceLaws.{le_lt, lt_le}
+use Rattle.level_set.specs.ChoiceLaws.{is_less, le_lt, lt_le}
 use Rattle.level_set.specs.LevelLaws.{no_lesser}
 
-table_range : (home : Home) → is_table home ≡ true → is_range home ≡ true
+pub table_range : (home : Home) → is_table home ≡ true → is_range home ≡ true
 table_range home is = both_second (nat_le home.level 4 && is_raw_text home.desc.least && is_raw_text home.desc.greatest) (is_range home) is
-
-is_less : (o : Ordering) → is_lt o ≡ true → o ≡ Less
-is_less Less is = refl
-is_less Equal is = absurd (cc)
-is_less Greater is = absurd (cc)
 
 -- of one level each is in front of the other
 not_both : (a b : Home) → is_range a ≡ true → is_range b ≡ true → a.level ≡ b.level → is_in_front a b ≡ true → is_in_front b a ≡ true → ⊥

@@ -2,14 +2,15 @@ ghost use Rattle.std.specs.Prelude.{◌≡◌, ◌≤◌, ◌<◌, [], ◌∷◌
 ghost use Rattle.kv_base.specs.Map.{kept};
 ghost use Rattle.level_set.specs.Edits.{tables_after, with_tables, tables_without};
 ghost use Rattle.level_set.specs.Tables.{lesser};
-ghost use Rattle.level_set.specs.Tables.{are_runs_below, are_tables, at_level, count_at};
+ghost use Rattle.level_set.specs.Tables.{are_tables, at_level, count_at};
 
 use crate::edit::Edit;
 use crate::home::Home;
-use crate::order::is_first;
-use crate::place::{stands_at, stands_behind};
+use crate::order::{are_below, is_first};
+use crate::place::{stands_at, stands_next};
 use kv_base::{NoMem, TableId};
 use std::alloc::Global;
+use std::collections::HashSet;
 use std::marker::Model;
 
 /// The tables of a store by their levels: one level after the other, level 0 newest first and the others by ascending raw
@@ -71,18 +72,6 @@ fn with_tables(alloc: Global, homes: Vec<Home>, added: &[Home]) -> Result<Option
     Ok(Some(now))
 }
 
-/// Is each of a run before this one?
-fn are_below(next_run: u64, homes: &[Home]) -> bool
-    ensures { result ≡ are_runs_below next_run homes.now }
-{
-    for home in homes {
-        if home.desc.id.run >= next_run {
-            return false;
-        }
-    }
-    true
-}
-
 impl Levels {
     /// No table at all, which takes no memory.
     #[tactic(auto, using(crate::specs::EditLaws::tables_none))]
@@ -95,16 +84,24 @@ impl Levels {
     }
 
     /// These tables, as they stand; `None` exactly where they may not stand together, or not in this order.
-    pub fn from_homes(homes: Vec<Home>) -> Option<Levels>
-        ensures { result ≡ kept are_tables (Some homes.items) }
+    ///
+    /// Each is held against the one in front of it alone, and names that come twice are found by a table of them. It fails
+    /// only where memory is short.
+    pub fn from_homes(alloc: Global, homes: Vec<Home>) -> Result<Option<Levels>, NoMem>
+        ensures { IfOk result (λ found. found ≡ kept are_tables (Some homes.items)) }
     {
+        let mut names = HashSet::new(alloc);
         for at in 0..homes.len() {
             let (front, _) = homes.as_slice().split_at(at);
-            if !stands_behind(front, &homes[at]) {
-                return None;
+            let home = &homes[at];
+            if !stands_next(front, home) {
+                return Ok(None);
+            }
+            if !names.insert((home.desc.id.run, home.desc.id.part))? {
+                return Ok(None);
             }
         }
-        Some(Levels { homes })
+        Ok(Some(Levels { homes }))
     }
 
     /// The tables, level after level.

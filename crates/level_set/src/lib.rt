@@ -23,4 +23,4 @@ pub use edit::{Edit, TableNames};
 pub use home::{Home, Homes};
 pub use laws::{edits_leave_tables_in_order, tables_come_in_alone, tables_have_one_place};
 pub use levels::Levels;
-pub use order::is_table;
+pub use order::{are_all_tables, are_below, is_table};
