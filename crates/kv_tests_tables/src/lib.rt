@@ -2,6 +2,12 @@
 #![tactic(auto)]
 
 #[cfg(test)]
+mod changed;
+#[cfg(test)]
+mod given;
+#[cfg(test)]
 mod opened;
+#[cfg(test)]
+mod walked;
 #[cfg(test)]
 mod written;

@@ -1,5 +1,6 @@
 -- A fault that is handed on.
 use Rattle.std.proofs.Common.{◌≡◌, ℕ, List, sym, subst, Option, Some, None, IfSome, Result, Ok, Err, IfErr, IfOk}
+use Rattle.std.specs.Prelude.{OnErr, OnOk}
 use Rattle.std.specs.Result.{IsErrAnd}
 use Rattle.kv_base.specs.Map.{Bytes}
 use Rattle.kv_outside.specs.ToldLaws.{told_leads}
@@ -12,6 +13,14 @@ use Rattle.sst_file.specs.OpenedPartLaws.{index_to_blame, filter_to_blame}
 pub err_is : {T E : Type 0} (r : Result T E) (e : E) (P : E → Type 0) → IsErrAnd r (λ f. f ≡ e) → P e → IfErr r P
 err_is (Ok x) e P is p = absurd is
 err_is (Err f) e P is p = subst P (sym is) p
+
+pub on_err : {T E : Type 0} (r : Result T E) (P : Type 0) → P → OnErr r P
+on_err (Ok x) P p = tt
+on_err (Err e) P p = p
+
+pub on_ok : {T E : Type 0} (r : Result T E) (P : Type 0) → P → OnOk r P
+on_ok (Ok x) P p = p
+on_ok (Err e) P p = tt
 
 pub always : (held : Option Bytes) (P : Bytes → Type 0) → ((bytes : Bytes) → P bytes) → IfSome held P
 always None P p = tt

@@ -1,8 +1,12 @@
 pub mod BlockLoop
+pub mod Bodies
 pub mod Exits
 pub mod Filling
 pub mod InBlock
 pub mod Opened
 pub mod OpenedTable
+pub mod Reaching
 pub mod SearchLoop
+pub mod WalkSteps
+pub mod Walks
 pub mod WholeTable

@@ -9,12 +9,12 @@ use Rattle.sst_file.specs.Searching.{HasBlock}
 use Rattle.sst_file.specs.Searching.{AreBlocksLeft, FoundIn}
 use Rattle.sst_file.specs.SearchStepLaws.{has_block, none_found, some_found, nothing_found}
 
-drop_next : (xs : List Spot) (i : ℕ) (x : Spot) → x ≡ get_or xs i x → i < length xs → drop i xs ≡ x ∷ drop (suc i) xs
+pub drop_next : (xs : List Spot) (i : ℕ) (x : Spot) → x ≡ get_or xs i x → i < length xs → drop i xs ≡ x ∷ drop (suc i) xs
 drop_next [] i x is low = let never : ⊥ = omega arith in absurd never
 drop_next (y ∷ xs) zero x is low = ap (λ (z : Spot). z ∷ xs) (sym is)
 drop_next (y ∷ xs) (suc i) x is low = drop_next xs i x is (omega arith)
 
-drop_end : (xs : List Spot) (i : ℕ) → length xs ≤ i → drop i xs ≡ []
+pub drop_end : (xs : List Spot) (i : ℕ) → length xs ≤ i → drop i xs ≡ []
 drop_end [] zero high = refl
 drop_end [] (suc i) high = refl
 drop_end (y ∷ xs) zero high = let never : ⊥ = omega arith in absurd never

@@ -8,3 +8,4 @@ pub mod SearchOrderLaws
 pub mod SearchStepLaws
 pub mod Searching
 pub mod States
+pub mod Walking

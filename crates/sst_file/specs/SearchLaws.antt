@@ -119,7 +119,7 @@ unfolding last_of
 last_raw_is raw row [] = refl
 last_raw_is raw row (r ∷ rows) = last_raw_is row.raw r rows
 
-below_last : (row : Row) (rows : List Row) (raw : Bytes) → is_ordered (row ∷ rows) ≡ true → byte_cmp (last_of row rows).raw raw ≡ Less → byte_cmp row.raw raw ≡ Less
+pub below_last : (row : Row) (rows : List Row) (raw : Bytes) → is_ordered (row ∷ rows) ≡ true → byte_cmp (last_of row rows).raw raw ≡ Less → byte_cmp row.raw raw ≡ Less
 unfolding is_ordered last_of
 below_last row [] raw order low = low
 below_last row (r ∷ rows) raw order low =

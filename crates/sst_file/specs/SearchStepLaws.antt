@@ -102,7 +102,7 @@ nothing_found raw s bytes left = told_rows bytes left.rows (λ rows. None ≡ se
 
 -- ---- where a search begins
 
-ordered_front : (rows more : List Row) → is_ordered (rows ++ more) ≡ true → is_ordered rows ≡ true
+pub ordered_front : (rows more : List Row) → is_ordered (rows ++ more) ≡ true → is_ordered rows ≡ true
 unfolding is_ordered
 ordered_front [] more h = refl
 ordered_front (row ∷ rows) more h =

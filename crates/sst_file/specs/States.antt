@@ -38,6 +38,15 @@ pub record TableState : Type 0 where
 abbrev pub table_off : TableState → FileName → ℕ → Bool
 table_off table file place = not (is_some table.rows) && same_name file (Table table.desc.id)
 
+-- What contracts see of a cursor over a table.
+pub record CursorState : Type 0 where
+  -- the table
+  pub table : TableState
+  -- its rows that are still to come, where they are told
+  pub rows : Option (List Row)
+  -- more than the bytes that are still to be read
+  pub left : ℕ
+
 -- ---- a table's parts and its bytes
 
 -- what is kept of a table in memory is that of its bytes

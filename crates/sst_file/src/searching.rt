@@ -65,7 +65,7 @@ fn damaged<F: Files>(parts: &Parts<F>, spot: &Spot) -> StoreFault
 }
 
 /// The first block whose last raw key is not below this one, where these rise.
-fn first_block(spots: &[Spot], raw: &[u8]) -> usize
+pub(crate) fn first_block(spots: &[Spot], raw: &[u8]) -> usize
     ensures bound { result ≤ length spots.now }
     ensures split { IsPartitionedBy (ends_below raw.now) spots.now → IsPartitionPoint (λ spot. ends_below raw.now spot ≡ true) (λ spot. ends_below raw.now spot ≡ false) spots.now result }
 {

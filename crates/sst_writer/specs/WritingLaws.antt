@@ -1,12 +1,12 @@
 -- A table's file goes on from row to row, and ends as the format gives it.
-use Rattle.std.proofs.Common.{◌≡◌, ℕ, List, [], ◌∷◌, ◌++◌, refl, sym, ap, subst, ◌∙◌, length, Option, Some, None, IfSome, append_assoc, append-nil}
-use Rattle.std.specs.Prelude.{is_some, OnErr, Result, Ok, Err}
+use Rattle.std.proofs.Common.{◌≡◌, ℕ, List, [], ◌∷◌, ◌++◌, refl, sym, ap, subst, ◌∙◌, Option, Some, None, IfSome, append_assoc, append-nil}
+use Rattle.std.specs.Prelude.{OnErr, Result, Ok, Err}
 use Rattle.kv_base.specs.Map.{Bytes}
 use Rattle.kv_base.specs.declared.row.Row.{Row}
 use Rattle.kv_base.specs.declared.name.FileName.{FileName}
-use Rattle.kv_outside.specs.Disk.{Disk, Agrees, CrashLeaves, IsDurable, NothingNew, Changes, Touches}
+use Rattle.kv_outside.specs.Disk.{Disk, Agrees, CrashLeaves, IsDurable, NothingNew, Touches}
 use Rattle.kv_outside.specs.Files.{Goes}
-use Rattle.kv_outside.specs.RunLaws.{agrees_still, at_end, begin_run, run_nothing, run_change, run_then}
+use Rattle.kv_outside.specs.RunLaws.{agrees_still, at_end, run_nothing, run_then}
 use Rattle.kv_outside.specs.ToldLaws.{goes_keeps}
 use Rattle.sst_parts.specs.declared.index.Spot.{Spot}
 use Rattle.sst_parts.specs.Blocks.{filled, blocks_text}
