@@ -2,4 +2,3 @@ pub mod Appending
 pub mod Carrying
 pub mod Replaying
 pub mod Paging
-pub mod Walking

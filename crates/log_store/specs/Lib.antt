@@ -7,4 +7,3 @@ pub mod Keeping
 pub mod KeepLaws
 pub mod Playing
 pub mod PlayLaws
-pub mod Walk

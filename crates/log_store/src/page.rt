@@ -3,7 +3,7 @@ ghost use Rattle.lives_model.specs.LiveRowLists.{pairs};
 ghost use Rattle.lives_model.specs.Page.{page};
 ghost use Rattle.kv_base.specs.RowRefs.{row_seen};
 ghost use Rattle.row_model.specs.Rows.{at as map_at};
-ghost use Rattle.log_store.specs.Walk.{greater, hides, listed, value_shown};
+ghost use Rattle.view_read.specs.Walk.{greater, hides, listed, value_shown};
 
 use kv_base::{Blob, NoMem};
 use lives_model::{LiveRow, LiveRows};

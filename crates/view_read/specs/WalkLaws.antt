@@ -18,7 +18,7 @@ use Rattle.row_model.specs.RowMapLaws.{get_at}
 use Rattle.row_model.specs.RowOrder.{row_cmp, leads, is_ordered}
 use Rattle.row_model.specs.RowLaws.{seen_is}
 use Rattle.row_model.specs.RowSearchLaws.{leads_each}
-use Rattle.log_store.specs.Walk.{hides, value_shown, listed, walked}
+use Rattle.view_read.specs.Walk.{hides, value_shown, listed, walked}
 
 -- ---- the order of rows
 

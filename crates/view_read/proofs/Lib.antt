@@ -1,0 +1,5 @@
+mod Filtering
+mod Finding
+mod Paging
+mod Showing
+mod Spreading
