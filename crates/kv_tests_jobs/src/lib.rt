@@ -1,0 +1,5 @@
+//! Tests of the jobs that write tables.
+#![tactic(auto)]
+
+#[cfg(test)]
+mod flushed;
